@@ -85,7 +85,7 @@ static void refusals(enum sigdorf_start_fault other_size, enum sigdorf_start_fau
     fault("start below 0 with more objects", solve(2, 3, two, COUNT(two), start, 3, 1), SIGDORF_START, price, 0);
 }
 
-/* A start with more objects than persons, which only a solve in one hand takes. */
+/* A start with more objects than persons, which only the direct solver takes. */
 static void spare_starts(void) {
     int64_t start[4] = {0, SIGDORF_HIGHEST_START, 0, 7};
     want("start with more objects", solve(2, 4, two, COUNT(two), start, 4, SIGDORF_USUAL_BIDS), SIGDORF_OPTIMAL);

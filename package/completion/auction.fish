@@ -13,6 +13,6 @@ complete -c auction -n '__fish_seen_subcommand_from solve' -x -l workers -d 'thr
 complete -c auction -n '__fish_seen_subcommand_from solve' -x -l bids -d 'bids of a shard in a phase, 1 to 10^12'
 complete -c auction -n '__fish_seen_subcommand_from solve' -x -l audit -d 'calls that a trail may note, 0 to 1000000'
 complete -c auction -n '__fish_seen_subcommand_from solve' -r -F -l from -d 'certificate whose prices it starts from'
-complete -c auction -n '__fish_seen_subcommand_from solve' -l direct -d 'solve in one hand, without messages'
+complete -c auction -n '__fish_seen_subcommand_from solve' -l direct -d 'solve by one direct search, without messages'
 complete -c auction -n '__fish_seen_subcommand_from solve' -x -l seconds -d 'seconds until it ends, with --direct'
 complete -c auction -n '__fish_seen_subcommand_from solve' -l progress -d 'tell how far it has come'

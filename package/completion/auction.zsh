@@ -21,8 +21,8 @@ case $command in
     solve)
         _arguments $objects '--workers[threads for each kind of shard, 0 to 16]:number of threads:' \
             '--bids[bids of a shard in a phase, 1 to 1000000000000]:number of bids:' '--audit[calls that a trail may note, 0 to 1000000]:number of calls:' \
-            '--from[certificate whose prices the auction starts from]:certificate:_files' '--direct[solve in one hand, without messages]' \
-            '--seconds[seconds until a solve in one hand ends, 1 to 1000000]:number of seconds:' '--progress[tell how far it has come]' '--help[show the usage]' ':problem:_files'
+            '--from[certificate whose prices the auction starts from]:certificate:_files' '--direct[solve by one direct search, without messages]' \
+            '--seconds[seconds until a direct search ends, 1 to 1000000]:number of seconds:' '--progress[report how far it has come]' '--help[show the usage]' ':problem:_files'
         ;;
     check) _arguments $objects '--help[show the usage]' ':problem:_files' ':certificate:_files' ;;
     hall) _arguments $objects '--help[show the usage]' ':problem:_files' ;;

@@ -31,8 +31,8 @@ def solve(
     `bound`. Where it is True, the prices of the solution show that none does.
 
     Entry k says that row rows[k] may have column columns[k] at costs[k]. Each row gets a column, or where there are more rows than columns
-    each column a row, none twice. The search of a first assignment takes O(rows * entries) time at most, mostly far less. The solver is the one
-    in one hand, as the program's with --direct; the numbers of rows and columns may be unequal.
+    each column a row, none twice. The search of a first assignment takes O(rows * entries) time at most, mostly far less. The solver is the
+    direct one, as the program's with --direct; the numbers of rows and columns may be unequal.
 
     rows, columns: int arrays of one length, from 0; a pair may stand twice.
     costs: int or float array of the same length, of at most 64 bits a number. Each counts exactly as it stands: no assignment has a smaller

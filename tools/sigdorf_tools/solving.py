@@ -31,7 +31,7 @@ class Answer(NamedTuple):
 
 
 class Solver:
-    """The program, the limits of its search, and whether the second checker is asked whatever the size. It solves in one hand, unless threads are asked for."""
+    """The program, the limits of its search, and whether the second checker is asked whatever the size. It solves by --direct, unless threads are asked for."""
 
     def __init__(self, program, bids=None, workers=None, has_second=False, seconds=None):
         self.program, self.has_second = program, has_second

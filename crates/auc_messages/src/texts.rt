@@ -10,7 +10,7 @@ pub(crate) const TOO_MANY_READS: &[u8] =
     b"it doesn't end within 1073741824 reads; name a file, or an input that ends";
 
 pub(crate) const EMPTY: &[u8] =
-    b"nothing stands in it; a problem is its number of persons, and then person, object and cost of each arc";
+    b"it is empty; a problem is its number of persons, and then person, object and cost of each arc";
 
 pub(crate) const BAD_NUMBER: &[u8] =
     b"this is no whole number; write persons, objects and costs as whole numbers with white space between them";
@@ -58,7 +58,7 @@ pub(crate) const LEFT_OVER: &[u8] =
     b"it gives a price to this object, which nobody takes, so a least cost isn't shown; solve anew";
 
 pub(crate) const NOT_HALL: &[u8] =
-    b"the persons it names don't know fewer objects than they are, so an assignment isn't ruled out; solve anew";
+    b"the persons it names may take as many objects as they are, so an assignment isn't ruled out; solve anew";
 
 pub(crate) const WRONG_BOUND: &[u8] = b"its lower bound is not that of its prices; solve anew";
 
@@ -66,7 +66,7 @@ pub(crate) const NOT_SQUARE: &[u8] =
     b"a solve starts from old prices only with as many objects as persons; leave out --from, or add --direct";
 
 pub(crate) const NO_PRICES: &[u8] =
-    b"it names persons who know too few objects, and has no prices to start from; leave out --from";
+    b"it names persons who may take too few objects, and has no prices to start from; leave out --from";
 
 pub(crate) const OTHER_SIZE: &[u8] =
     b"it is of a problem with another number of persons or objects; leave out --from, or name that of an equal number";
@@ -75,7 +75,7 @@ pub(crate) const TOO_HIGH: &[u8] =
     b"the price of this object is above 1152921504606846976, too high to start from; leave out --from";
 
 pub(crate) const SCRIPT_WORD: &[u8] =
-    b"this may not stand here; a script is mail BOXES SENDERS NODES MOST, and then post, take and close with their numbers";
+    b"this is not allowed here; a script is mail BOXES SENDERS NODES MOST, and then post, take and close with their numbers";
 
 pub(crate) const SCRIPT_RANGE: &[u8] =
     b"this number is out of its range; docs/FORMATS.md has the range of each number of a script";
@@ -96,16 +96,16 @@ pub(crate) const CEILING_PASSED: &[u8] =
     b"a price would have passed the greatest one: the answer is an assignment, and a bound below which none costs; for a least cost use a greater unit, so that costs differ by less";
 
 pub(crate) const POSTS_RAN_OUT: &[u8] =
-    b"a mail has had as many letters as it may have: the answer is an assignment, and a bound below which none costs; for a least cost leave out --workers, or say --direct in its place";
+    b"a mail has had as many letters as it may have: the answer is an assignment, and a bound below which none costs; for a least cost leave out --workers, or give --direct instead";
 
 pub(crate) const TRAIL_FULL: &[u8] =
     b"a trail of --audit was full: the answer is an assignment, and a bound below which none costs; for a least cost raise --audit, or leave it out";
 
 pub(crate) const MAIL_FULL: &[u8] =
-    b"a mail had no room left: the answer is an assignment, and a bound below which none costs; for a least cost leave out --workers, or say --direct in its place";
+    b"a mail had no room left: the answer is an assignment, and a bound below which none costs; for a least cost leave out --workers, or give --direct instead";
 
 pub(crate) const NO_ASSIGNMENT: &[u8] =
-    b"there is no assignment: the persons that the answer names know fewer objects than they are; give them more arcs, or leave some out";
+    b"there is no assignment: the persons that the answer names may take fewer objects than they are; give them more arcs, or leave some out";
 
 pub(crate) const BRACKET_ALONE: &[u8] =
     b"a limit ended the search: the answer is an assignment, and a bound below which none costs";
@@ -118,7 +118,7 @@ pub(crate) const NOT_WRITTEN: &[u8] =
 
 pub(crate) const INPUT_REFUSED: &[u8] = b"an input was refused; see standard output";
 
-pub(crate) const NO_COMMAND: &[u8] = b"the words are no command; see auction --help";
+pub(crate) const NO_COMMAND: &[u8] = b"these arguments are no command; see auction --help";
 
 pub(crate) const STATUS_ALONE: &[u8] =
     b"the job has ended with this status alone; see standard output";
@@ -135,7 +135,7 @@ pub(crate) const UTF16: &[u8] =
     b"this text is encoded as UTF-16; save it as UTF-8, as by iconv -f UTF-16 -t UTF-8 FILE | auction solve";
 
 pub(crate) const MARKED: &[u8] =
-    b"a byte order mark stands in front of this text; save it without, as by tail -c +4 FILE | auction solve";
+    b"this text begins with a byte order mark; save it without, as by tail -c +4 FILE | auction solve";
 
 pub(crate) const MATRIX_MARKET: &[u8] =
     b"this is a MatrixMarket file; leave out the lines that begin with %, write its rows alone on the first line, and its columns after --objects";

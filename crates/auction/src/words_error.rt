@@ -6,12 +6,12 @@ ghost use Rattle.auction.specs.declared.words_error.WordsError.TheVariants.{NoMe
 use std::alloc::{AllocError, AllocFailed};
 use thiserror::Error;
 
-/// Why the words are no job. The texts are what the program tells on standard error; of [`WordsError::Usage`] where it
-/// can't tell which word is at fault (`wrong_words.rt`).
+/// Why the words are no job. The texts are what the program writes to standard error; that of [`WordsError::Usage`] where
+/// it can't say which argument is at fault (`wrong_words.rt`).
 #[derive(Clone, Copy, Debug, PartialEq, Eq, Error)]
 pub enum WordsError {
     /// They are none that the program knows.
-    #[error("auction: these words are no command; auction --help tells how they go")]
+    #[error("auction: these arguments are no command; see auction --help")]
     Usage,
     /// They ask for a trail without threads.
     #[error("auction: --audit ROOM wants --workers K above 0: a solve without threads keeps no trail")]
@@ -22,8 +22,8 @@ pub enum WordsError {
     /// They ask for a start from a certificate, and for a number of objects.
     #[error("auction: --from CERT goes with --objects M only where there is --direct too: else a solve from old prices has as many objects as persons")]
     FromObjects,
-    /// They ask for the solver in one hand, and for threads or a trail.
-    #[error("auction: --direct goes without --workers K and --audit ROOM: a solve in one hand has no threads and no trail")]
+    /// They ask for the direct solver, and for threads or a trail.
+    #[error("auction: --direct goes without --workers K and --audit ROOM: a direct search has no threads and no trail")]
     DirectThreads,
     /// They ask for another solver, and that it be watched.
     #[error("auction: --seconds T and --progress want --direct: a solve by messages has its limits by --bids N alone")]

@@ -158,7 +158,7 @@ impl<'a> Walk<'a> {
     /// Goes past the value of the option before it.
     fn value(&self, option: &'a str, wanted: Wanted, word: &'a str) -> Option<WordFault<'a>> {
         if is_option(word) {
-            return Some(WordFault::about("no value stands after ", option, "; see auction --help"));
+            return Some(WordFault::about("no value follows ", option, "; see auction --help"));
         }
         fault_of_value(wanted, word)
     }
@@ -214,7 +214,11 @@ impl<'a> Walk<'a> {
             return Ok(Some(fault.with_nearest("--", nearest)));
         };
         if is_among(earlier, option) {
-            return Ok(Some(WordFault::about("an option stands twice, ", option, "; give it once")));
+            return Ok(Some(WordFault::about(
+                "an option is given twice, ",
+                option,
+                "; give it once",
+            )));
         }
         Ok(self.option(wanted, word))
     }
@@ -222,14 +226,14 @@ impl<'a> Walk<'a> {
     /// What is missing at the end of the words.
     fn end(&self) -> WordFault<'a> {
         if let Some((option, _)) = self.awaited {
-            return WordFault::about("no value stands after ", option, "; see auction --help");
+            return WordFault::about("no value follows ", option, "; see auction --help");
         }
         if self.names == 0 && self.command == Command::Check {
             return WordFault::alone(
                 "check wants the name of a problem: auction check FILE [CERT] [--objects M]",
             );
         }
-        WordFault::alone("these words are no command; auction --help tells how they go")
+        WordFault::alone("these arguments are no command; see auction --help")
     }
 }
 
@@ -262,7 +266,7 @@ fn fault_after<'a>(
 fn fault_of_command<'a>(alloc: Global, word: &'a str) -> Result<WordFault<'a>, AllocError> {
     if is_option(word) {
         return Ok(WordFault::about(
-            "a command stands first, and not ",
+            "a command comes first, and not ",
             word,
             "; see auction --help",
         ));
@@ -275,7 +279,7 @@ fn fault_of_command<'a>(alloc: Global, word: &'a str) -> Result<WordFault<'a>, A
 /// What is wrong with the words after `help`, which are no command's name alone.
 fn fault_of_help<'a>(alloc: Global, words: &'a [String]) -> Result<WordFault<'a>, AllocError> {
     match words {
-        [] => Ok(WordFault::alone("these words are no command; auction --help tells how they go")),
+        [] => Ok(WordFault::alone("these arguments are no command; see auction --help")),
         [word] => fault_of_command(alloc, word.as_str()),
         [_, word, ..] => {
             Ok(WordFault::about("one name too many, ", word.as_str(), "; see auction --help"))

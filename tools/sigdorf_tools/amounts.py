@@ -59,7 +59,7 @@ def parts_with(text, mark):
         raise NoNumber("is no number; write digits alone")
     if parts.mark not in (None, mark):
         found, wanted = ("comma", "point") if parts.mark == "," else ("point", "comma")
-        raise NotAnAmount(f"has a {found} in it, and decimals of this table stand behind a {wanted}; write all of them so, or say --decimal-mark {found}")
+        raise NotAnAmount(f"has a {found} in it, and decimals of this table come after a {wanted}; write all of them so, or say --decimal-mark {found}")
     return parts
 
 

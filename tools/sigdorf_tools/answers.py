@@ -20,7 +20,7 @@ def add_files(words):
     words.add_argument("arcs", metavar="ARCS", help="the arc file")
     words.add_argument("certificate", metavar="CERTIFICATE", help="what `auction solve` wrote for it")
     words.add_argument("--names", metavar="NAMES", help="the names file that `from_csv` wrote beside the arc file")
-    words.add_argument("--objects", metavar="M", type=number_of_objects, help="how many objects there are, where no names file tells; left out, as many as persons")
+    words.add_argument("--objects", metavar="M", type=number_of_objects, help="how many objects there are, where no names file says; left out, as many as persons")
 
 
 def number_of_objects(word):

@@ -24,7 +24,7 @@ def area_said(word):
         raise Fault(f"--range {word}: the first and the last cell are wanted, as in B4:E7")
     first, last = ((int(found[row]), place_of(found[column])) for column, row in ((1, 2), (3, 4)))
     if first[0] > last[0] or first[1] > last[1]:
-        raise Fault(f"--range {word}: the last cell stands above the first one, or in front of it; name them the other way round")
+        raise Fault(f"--range {word}: the last cell is above the first one, or left of it; name them the other way round")
     return Area(first[0], last[0], first[1], last[1])
 
 

@@ -28,7 +28,7 @@ def add_options(words, is_left_out=False):
     words.add_argument("file", metavar="FILE", nargs="?" if is_left_out else None, help=f"{table}; CSV, .xlsx, .ods or .json; FILE:SHEET names a sheet of a workbook; `-` is standard input")
     words.add_argument("--decimals", type=number_of_decimals, metavar="D", help="how many decimals of the costs are kept, 0 to 9; left out, as many as the table has")
     words.add_argument("--round", type=number_of_decimals, metavar="N", help="round costs that have more than N decimals, 0 to 9")
-    words.add_argument("--decimal-mark", choices=list(MARKS), help="what stands before decimals, where it isn't to be found out")
+    words.add_argument("--decimal-mark", choices=list(MARKS), help="the mark before decimals, where it isn't to be found out")
     words.add_argument("--maximise", "--maximize", action="store_true", help="look for the greatest total, not for the least")
     form = words.add_mutually_exclusive_group()
     form.add_argument("--form", choices=["pairs", "matrix"], help="the form of the table, where it isn't to be found out; --pairs and --matrix say the same")

@@ -34,7 +34,7 @@ def form_of(table, has_header):
 
 def are_names_of_objects(cells):
     """Whether the second column of a table lists objects, since none of its cells may stand in a column of costs. That
-    a person stands there twice proves nothing: in a matrix it may be a slip."""
+    a person is there twice proves nothing: in a matrix it may be a slip."""
     return all(map(is_name, cells))
 
 

@@ -95,7 +95,7 @@ def value_of(file, text, line=1):
         found = dict(pairs)
         if len(found) < len(pairs):
             name = next(name for place, (name, _) in enumerate(pairs) if name in dict(pairs[:place]))
-            raise Fault(f"{file}: the name {quoted(name)} stands twice in one object; give each one a name of its own")
+            raise Fault(f"{file}: the name {quoted(name)} is twice in one object; give each one a name of its own")
         return found
     try:
         return json.loads(text, parse_float=str, parse_int=str, parse_constant=str, object_pairs_hook=record)

@@ -45,7 +45,7 @@ def numbers_said(option, word, names, kind, told):
         if row == 0 and is_title(cells[1]) and cells[0] not in names:
             continue
         if cells[0] in found:
-            raise table.fault(row, 0, f"the name {quoted(cells[0])} stands there twice; leave one of the rows out")
+            raise table.fault(row, 0, f"the name {quoted(cells[0])} is there twice; leave one of the rows out")
         if cells[0] not in names:
             raise table.fault(row, 0, unknown(kind, cells[0], names))
         found[cells[0]] = table.place(row, 1), cells[1]
@@ -93,7 +93,7 @@ def by_label(table, numbers):
     groups, first, seen = list(range(len(numbers))), {}, set()
     for row, cells in enumerate(table.rows):
         if cells[0] in seen:
-            raise table.fault(row, 0, f"the name {quoted(cells[0])} stands there twice; leave one of the rows out")
+            raise table.fault(row, 0, f"the name {quoted(cells[0])} is there twice; leave one of the rows out")
         seen.add(cells[0])
         if len(cells) != 2:
             raise table.fault(row, min(len(cells), 2), f"the row has {columns(len(cells))}, and 2 are wanted; write an object and its day, or objects that can't go together")

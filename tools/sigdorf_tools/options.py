@@ -37,7 +37,7 @@ def look_at_questions(words):
     asked = next((option for option in ("why", "second", "fair") if getattr(words, option)), None)
     beside = next((option for option in WITHOUT_QUESTIONS if getattr(words, option) is not None), None)
     if asked and beside:
-        raise Fault(f"--{asked}: it isn't told beside --{beside.replace('_', '-')}; leave one of them out")
+        raise Fault(f"--{asked}: it doesn't go with --{beside.replace('_', '-')}; leave one of them out")
 
 
 def look_at_output(file, said):

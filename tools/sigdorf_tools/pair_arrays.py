@@ -15,7 +15,7 @@ ONE_BY_ONE = 32
 FIRST_BYTES = [(1 << 8 * count) - 1 for count in range(WORD + 1)]
 LAST_BYTES = [((1 << 8 * count) - 1) << 8 * (WORD - count) for count in range(WORD + 1)]
 ZEROS, ABOVE_NINE, HIGH_BITS = (int.from_bytes(bytes([byte]) * WORD, "little") for byte in (0x30, 0x76, 0x80))
-# Above so many pairs of a person and an object, whether any is there or not, they are sorted to find one that stands there twice.
+# Above so many pairs of a person and an object, whether any is there or not, they are sorted to find one that is there twice.
 MOST_CELLS = 100_000_000
 
 
@@ -266,7 +266,7 @@ def digits_before(numpy, text, ends, digits):
 
 
 def arcs_by_persons(numpy, columns, units):
-    """The arcs of each person; None where a pair stands there twice."""
+    """The arcs of each person; None where a pair is there twice."""
     persons, objects = columns.person_numbers, columns.object_numbers
     if has_doubles(numpy, persons, objects, len(columns.persons) + 1, len(columns.objects) + 1):
         return None

@@ -196,7 +196,7 @@ def batches(text, begin, separator):
 
 
 def by_persons(rows, texts):
-    """The arcs of each person; None where a pair stands there twice."""
+    """The arcs of each person; None where a pair is there twice."""
     return of_runs(rows, texts) if isinstance(rows.persons[0], int) else of_batches(rows, texts)
 
 

@@ -150,7 +150,7 @@ def titles_of(table):
     if not rest:
         raise table.fault(0, 2, f"{quoted(first[2])} is no number, and there is no row below it; put the pairs below the titles")
     if not table.form and first[0] in (cells[0] for cells in rest):
-        raise table.fault(0, 2, f"{quoted(first[2])} is no number, and {quoted(first[0])} is no title, since it stands below too; write a number, or titles above")
+        raise table.fault(0, 2, f"{quoted(first[2])} is no number, and {quoted(first[0])} is no title, since it is below too; write a number, or titles above")
     return [cell or title for cell, title in zip(first, TITLES)]
 
 
@@ -185,7 +185,7 @@ def look_at_names(table, names, place_of, most):
     seen = set()
     for place, name in enumerate(names if len(set(names)) < len(names) else ()):
         if name in seen:
-            raise table.fault(*place_of(place), f"the name {quoted(name)} stands there twice; give each one a name of its own")
+            raise table.fault(*place_of(place), f"the name {quoted(name)} is there twice; give each one a name of its own")
         seen.add(name)
 
 

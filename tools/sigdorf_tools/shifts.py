@@ -17,7 +17,7 @@ def overlapping(table, numbers):
         if len(cells) != 3 or not all(cells):
             raise table.fault(row, min(len(cells), 2), "an object, when it begins, and when it ends are wanted in three columns")
         if numbers[cells[0]] in spans:
-            raise table.fault(row, 0, f"the name {quoted(cells[0])} stands there twice; leave one of the rows out")
+            raise table.fault(row, 0, f"the name {quoted(cells[0])} is there twice; leave one of the rows out")
         spans[numbers[cells[0]]] = span_of(table, row)
     apart, before = [set() for _ in numbers], []
     for (begin, end), place in sorted((span, place) for place, span in spans.items()):

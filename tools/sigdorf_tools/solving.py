@@ -122,6 +122,6 @@ class Solver:
             if not line.startswith(f"auction: {file}".encode()):
                 sys.stderr.write(line.decode("utf-8", "replace"))
         if running.returncode not in ANSWERED:
-            told = certificate.decode("latin-1").strip() or "its own words stand above"
+            told = certificate.decode("latin-1").strip() or "its own words are above"
             raise Fault(f"{name}: the solver gave no answer, but status {running.returncode} ({told})")
         return certificate, running.returncode

@@ -82,7 +82,7 @@ def read_source(file, reading=Reading()):
         raise Fault(f"{file}: it is a workbook of an old Excel (.xls); save it as .xlsx, or as CSV in UTF-8")
     if content.startswith(WORKBOOK):
         if reading.encoding is not None:
-            raise Fault(f"{file}: --encoding is said, and a workbook tells its own; leave it out")
+            raise Fault(f"{file}: --encoding is said, and a workbook has its own; leave it out")
         rows, lines, columns, notes = read_workbook(file, content, reading.sheet)
         rows, lines, columns = cut(reading.area, rows, lines, columns)
         return table_of(file, ",", rows, lines, False, columns=columns)._replace(notes=notes, not_possible=reading.gaps)

@@ -283,7 +283,7 @@ class Hostile(BrowserTest):
         """Without the token there is a sentence and no table, and the page of somebody else can't reach this one."""
         self.open(CREW)
         other = self.start(f"{self.page.origin}/")
-        self.assertIn("open the one that plan has told in the terminal", other.find_element("tag name", "body").text)
+        self.assertIn("open the one that plan has printed in the terminal", other.find_element("tag name", "body").text)
         self.assertEqual((other.get_cookies(), other.find_elements("css selector", "table")), ([], []))
         self.assertEqual(other.execute_async_script("const done = arguments[0]; fetch('/view').then((answer) => done(answer.status))"), 403)
         self.assertEqual([cookie["httpOnly"] for cookie in self.browser.get_cookies()], [True])

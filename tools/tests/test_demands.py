@@ -162,7 +162,7 @@ class Demands(ToolTest):
             (["--apart", "half.csv"], "half.csv, line 1, column 3", "`6:00` has no day, and the begin has one"),
             (["--apart", "late.csv"], "late.csv, line 1, column 1", "no object `lat`", "`late`"),
             (["--apart", "days.csv", "--capacity", "2", "--fix", "Ada=early", "--fix", "Ada=late"], "--fix Ada=late", "can't go with that of --fix Ada=early"),
-            (["--apart", "twice.csv"], "twice.csv, line 2, column 1", "`early` stands there twice"),
+            (["--apart", "twice.csv"], "twice.csv, line 2, column 1", "`early` is there twice"),
             (["--apart", "mixed.csv"], "mixed.csv, line 2, column 2", "no object `Mon`"),
             (["--fix", "Ada=early", "--fix", "Ben=early", "--need", "1"], "--fix Ben=early", "wants 1"),
             (["--fix", "Ada=early", "--fix", "Ada=early", "--need", "2", "--capacity", "2"], "--fix Ada=early"),

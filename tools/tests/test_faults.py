@@ -67,7 +67,7 @@ FAULTS = [
     ("who,x\na,1\n", "--matrix --ignore-column x", ", line 1", "put a column for each object"),
     ("who,what,cost\na,x\nb,y,2\n", "--columns who,what,cost", ", line 2, column 3", "fill it up"),
     ("who,what,x\na,b,1\nc,d,2\n", "--pairs --ignore-column x", ", line 1, column 3", "fill it up"),
-    (f",{'x' * 500},{'x' * 500}\na,1,2\n", "", ", line 1, column 3", f"the name `{'x' * 37}..` stands there twice"),
+    (f",{'x' * 500},{'x' * 500}\na,1,2\n", "", ", line 1, column 3", f"the name `{'x' * 37}..` is there twice"),
     ("who,what,cost\na,x,3\n", "--columns who,what,price", ", line 1", "say one of `who`, `what`, `cost`"),
     ("a,x,1\n", "--sheet Plan", "", "leave it out"),
     ("a,x,1\nb,y,2\n", "--range D1:E9", "", "put person, object and cost into three columns"),

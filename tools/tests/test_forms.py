@@ -12,7 +12,7 @@ from sigdorf_tools.pair_texts import problem_of_pairs
 from sigdorf_tools.problems import problem_of
 from sigdorf_tools.tables import read_source, table_of_source
 
-# Tables of three columns that may be either, with and without a name that stands there twice.
+# Tables of three columns that may be either, with and without a name that is there twice.
 UNCLEAR = [
     "Name;Fr\u00fch;Sp\u00e4t\nM\u00fcller;3;5\nSchmidt;4;2\nM\u00fcller;1;9\nMeier;2;2\n",
     "Name;Fr\u00fch;Sp\u00e4t\nM\u00fcller;3;5\nSchmidt;4;2\n",
@@ -97,7 +97,7 @@ class Forms(ToolTest):
         table = UNCLEAR[0]
         self.assertEqual(self.convert(table, "--pairs"), "3\n1 1 5\n1 3 9\n2 2 2\n3 4 2\n")
         answer = self.call("tools/from_csv", "table.csv", "--matrix")
-        self.assert_fault(answer, "table.csv, line 4, column 1", "stands there twice")
+        self.assert_fault(answer, "table.csv, line 4, column 1", "is there twice")
         self.assertEqual(self.convert(UNCLEAR[1], "--matrix"), "2\n1 1 3\n1 2 5\n2 1 4\n2 2 2\n")
 
 

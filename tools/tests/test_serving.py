@@ -63,7 +63,7 @@ class Guards(ServedTest):
     def test_token(self):
         page = self.serve()
         for path in ("/", "/?token=", "/?token=wrong", f"/?{page.query}x", "/?token=%00%ff"):
-            self.assert_refused(page.ask(path), 403, "open the one that plan has told in the terminal")
+            self.assert_refused(page.ask(path), 403, "open the one that plan has printed in the terminal")
         answer = page.open()
         self.assertEqual((answer.status, answer.headers["Content-Type"]), (200, "text/html; charset=utf-8"))
         self.assertRegex(answer.headers["Set-Cookie"], r"^plan_[0-9]+=[\w-]{43}; HttpOnly; SameSite=Strict; Path=/$")

@@ -28,7 +28,7 @@ def file_of(name):
 
 class Widths(unittest.TestCase):
     def test_table(self):
-        """No letter stands there twice, and wider classes come later."""
+        """No letter is there twice, and wider classes come later."""
         letters = "".join(letters for _, _, letters in TABLE)
         self.assertEqual(len(letters), len(WIDTHS))
         self.assertEqual([row[0] for row in TABLE], sorted(row[0] for row in TABLE))

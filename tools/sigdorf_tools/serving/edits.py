@@ -26,7 +26,7 @@ class Edits(NamedTuple):
         costs = dict(self.costs)
         for cell in list_told(told, "costs"):
             if not isinstance(cell, list) or len(cell) != 3 or not isinstance(cell[2], str | None):
-                raise Refusal(400, "a cost is told by a person, an object and a text; load the page anew")
+                raise Refusal(400, "a cost is given by a person, an object and a text; load the page anew")
             pair, text = pair_told(cell[:2], problem), cell[2]
             costs.pop(pair, None)
             if text is not None:

@@ -10,7 +10,7 @@ from .refusals import Refusal
 # So many browsers may have a session; the one that was longest without a request makes room.
 MOST_SESSIONS = 8
 SECONDS_PER_GUESS = 1.0
-NO_TOKEN = "this page is for whoever has its whole address, with the token; open the one that plan has told in the terminal"
+NO_TOKEN = "this page is for whoever has its whole address, with the token; open the one that plan has printed in the terminal"
 NO_SESSION = "this browser isn't signed in any more; open the page anew"
 
 

@@ -115,7 +115,7 @@ class Handler(http.server.BaseHTTPRequestHandler):
             raise Refusal(507, f"{error.filename or 'the disk'}: it can't be written: {error.strerror}; make room there") from None
         except Exception as error:
             traceback.print_exc(file=sys.stderr)
-            raise Refusal(500, f"plan is at fault here ({type(error).__name__}); what it was stands in the terminal, and the page can go on") from None
+            raise Refusal(500, f"plan is at fault here ({type(error).__name__}); what it was is in the terminal, and the page can go on") from None
 
     def url_told(self):
         try:

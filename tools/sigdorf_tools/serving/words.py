@@ -42,7 +42,7 @@ def password_of(file):
         return None
     content = read_bytes(file)
     if os.stat(file).st_mode & (stat.S_IRWXG | stat.S_IRWXO):
-        raise Fault(f"{file}: others may read it, and a password stands in it; say `chmod 600 {file}`")
+        raise Fault(f"{file}: others may read it, and it holds a password; run `chmod 600 {file}`")
     try:
         password = (content.splitlines() or [b""])[0].decode("utf-8")
     except UnicodeDecodeError:

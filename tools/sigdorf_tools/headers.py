@@ -111,5 +111,5 @@ def note_of_titles(table, count):
     if not count:
         return []
     first, last = table.lines[0], table.lines[count - 1]
-    told = f"{table.line_word} {first} stands" if count == 1 else f"{count} {table.line_word}s down to {last} stand"
+    told = f"{table.line_word} {first} is" if count == 1 else f"{count} {table.line_word}s down to {last} are"
     return [f"{table.file}: {told} above the header, and {'is' if count == 1 else 'are'} left out"]

@@ -95,7 +95,7 @@ class Places(ReadingTest):
         self.assertEqual(self.read_as(f"Week 48,,,,\n{table.replace('Mon,,Tue,', 'Mon,Mon,Tue,Tue')}")[0], arcs)
         self.assertEqual(self.names()[1][3], "Tue late")
         # Names that differ need no upper level.
-        self.assertIn("line 1 stands above the header", self.read_as(",Mon,,Tue,\nwho,a,b,c,d\na,1,2,3,4\n")[1])
+        self.assertIn("line 1 is above the header", self.read_as(",Mon,,Tue,\nwho,a,b,c,d\na,1,2,3,4\n")[1])
         self.assertEqual(self.names()[1], ["a", "b", "c", "d"])
         self.write("table.csv", ",Mon,,Tue,\nwho,1,2,1,2\na,1,2,3,4\n")
         self.assert_fault(self.call("tools/from_csv", "table.csv"), "line 1, column 3", "a name is wanted")

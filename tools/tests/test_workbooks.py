@@ -108,7 +108,7 @@ class Books(ToolTest):
     def test_merged_cells(self):
         arcs, names, said = self.sheet("book.xlsx:Levels")
         self.assertEqual((arcs, names[1:]), ("1\n1 1 1\n1 2 2\n1 3 3\n1 4 4\n", ["Mon early", "Mon late", "Tue early", "Tue late"]))
-        for part in ("line 1 stands above the header", "lines 2 and 3 are read as a header of two levels", "3 merged cells count in all cells"):
+        for part in ("line 1 is above the header", "lines 2 and 3 are read as a header of two levels", "3 merged cells count in all cells"):
             self.assertIn(part, said)
         for name, count in (("book.xlsx:Merged", "2 merged cells count"), ("book.ods:Merged", "1 merged cell counts")):
             arcs, names, said = self.sheet(name)

@@ -47,7 +47,7 @@ def reached():
 
 def faults_of_counts(found):
     above = [(name, most) for name, most in reached().items() if found[name] > most]
-    return [f"docs/{FILE.name}: {name} are {found[name]}, and may be {most}" for name, most in above]
+    return [f"tools/checks/{FILE.name}: {name} are {found[name]}, and may be {most}" for name, most in above]
 
 
 def lower(found):

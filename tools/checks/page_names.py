@@ -6,7 +6,7 @@ import re
 import shutil
 import subprocess
 
-ROOT = pathlib.Path(__file__).resolve().parent.parent
+ROOT = pathlib.Path(__file__).resolve().parents[2]
 # What pages tell of as gone, or as another's: a diary of what changed and of what was tried.
 PAST = ("CHANGELOG.md", "docs/notes/")
 SUFFIXES = {".rt", ".antt", ".py", ".c", ".h", ".cpp", ".rs", ".toml", ".edit", ".in", ".cmake", ".map", ".txt", ".names", ".bash", ".zsh", ".fish", ".1"}

@@ -4,8 +4,8 @@ import pathlib
 import re
 import tomllib
 
-DOCS = pathlib.Path(__file__).resolve().parent
-ROOT = DOCS.parent
+ROOT = pathlib.Path(__file__).resolve().parents[2]
+DOCS = ROOT / "docs"
 CRATES = ROOT / "crates"
 DATA = DOCS / "rules.toml"
 COLUMNS = ("definition", "clause", "code", "test", "edit")

@@ -164,7 +164,7 @@ impl<'a> Market<'a> {
     }
 }
 
-/// The market that a proposal gives: each person takes the object of the proposed arc, by its place in the person's
+/// The holdings that a proposal gives: each person takes the object of the proposed arc, by its place in the person's
 /// row, at its proposed price. None where a person gets no object so, or isn't within the last eps of the best. An
 /// object that nobody takes has price 0 where there are more objects than persons.
 ///

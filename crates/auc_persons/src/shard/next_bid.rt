@@ -79,7 +79,7 @@ impl PersonShard {
     /// since copies never fall, and where a world of later prices begins.
     ///
     /// Takes a pass over a short row. For a longer row most bids take a pass over a short list, and the others as long
-    /// as [`Self::next_bid`], of a row of more than 256 arcs only a part is scanned. No memory.
+    /// as [`Self::next_bid`]. Of a row of more than 256 arcs these scan a part. No memory.
     #[inline(always)]
     pub fn next_bid_by(&mut self, rows: &Rows, eps: i64, bidder: &mut Bidder) -> Bidding
         requires rows { IsMadeFor rows.now self.old }

@@ -1,6 +1,6 @@
 //! Scripts of a mail: their text is read, their calls are made on a new mail, and the replies are written.
 //!
-//! By [`replies_to`] each box hands out of a sender's items a prefix of what that sender posted, and accepts nothing
+//! By [`replies_to`] each box returns, of a sender's items, a prefix of what that sender posted, and accepts nothing
 //! after a close.
 #![tactic(auto)]
 

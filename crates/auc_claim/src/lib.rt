@@ -1,7 +1,6 @@
 //! The claims of certificates, and the checker.
 //!
-//! [`check`] tests a claim by weak duality (Bertsekas, 1988) or by Hall's condition (1935), in O(arcs + persons +
-//! objects) time.
+//! [`check`] tests a claim by weak duality or by Hall's condition (1935), in O(arcs + persons + objects) time.
 //!
 //! Proved: what [`check`] accepts is true of the problem, of all its assignments. So nobody who made a certificate has
 //! to be trusted. The text of certificates is in `auc_cert`.

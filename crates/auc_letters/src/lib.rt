@@ -1,4 +1,4 @@
-//! Letters between persons and objects: what they say, where they go, and what they do.
+//! The letters between persons and objects: their content, their receivers, and their effects.
 //!
 //! Persons, objects, arcs and shards are numbered from 0. All types are small `Copy` values. The award rule, and the
 //! shard that a letter goes to, are defined in `specs/Award.antt` and `specs/Routing.antt`.

@@ -43,8 +43,8 @@ fn boxes_close_once(rt: HostRuntime) -> Result<(), Fail> {
     Ok(())
 }
 
-/// A bid, and the Stop of a shard that may make no more; it makes one alone. Then an award and a First into closed
-/// boxes: nobody gets them, and the person holds the object all the same.
+/// A bid, and the Stop of a shard that may make no more bids; it makes only one Stop. Then an award and a First into
+/// closed boxes: nobody gets them, and the person holds the object all the same.
 const SWALLOWED: [Step; 17] = [
     BID,
     PERSON_POST,

@@ -84,7 +84,8 @@ fn claimed(
 }
 
 /// The answer of a last phase that has sold an object to each person: its holders' arcs, their total cost, and its
-/// prices, where these pass the checker, or else the guard `Check`. Takes O(arcs + persons) time and O(persons) memory.
+/// prices. Where these don't pass the checker, it is the guard `Check`. Takes O(arcs + persons) time and O(persons)
+/// memory.
 ///
 /// # Errors
 ///

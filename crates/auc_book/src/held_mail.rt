@@ -104,8 +104,9 @@ impl<'b, T: Copy, N: MailBrand> HeldMail<'b, T, N> {
         answer
     }
 
-    /// Releases the lock, and then wakes the threads that can go on: those that wait at a box that was posted to or
-    /// closed; and all that wait at this mail, where no more calls can be noted, since that ends each wait.
+    /// Releases the lock, and then wakes the threads that can go on. These are the threads that wait at a box that was
+    /// posted to or closed. Where no more calls can be noted, they are all that wait at this mail, since that ends each
+    /// wait.
     pub fn release(self) {
         let HeldMail {
             locked,

@@ -12,7 +12,7 @@ use std::marker::Model;
 use std::sync::ledger::{Book, Share};
 
 /// A worker's seat at a shared mail: it counts the worker's calls, and notes them where the mail keeps a trail. Calls
-/// that are turned away are counted apart.
+/// that are turned away are counted separately.
 ///
 /// Its count is the worker's share of the ledger of all calls, whose total is under the mail's lock. So it rises only
 /// where a call was made there.

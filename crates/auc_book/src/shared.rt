@@ -180,8 +180,8 @@ impl<T: Copy, N: MailBrand> SharedMail<T, N> {
     /// Takes the first waiting letter of one of the box's lanes, and waits until there is one or the box is closed. To
     /// wait is no call.
     ///
-    /// Refused where no more calls can be noted, which is tested each time it has the lock: the seat counts that, and
-    /// all threads that wait at this mail are woken. It looks for a while before it sleeps. Takes the time of
+    /// Refused where no more calls can be noted, which is tested each time it has the lock. Then the seat counts that,
+    /// and all threads that wait at this mail are woken. It looks for a while before it sleeps. Takes the time of
     /// `MailPool::take` each time it has the lock, and no memory.
     pub fn take<R: Wait>(
         &self,

@@ -29,8 +29,8 @@ pub fn hall_sets_pass()
 {}
 
 /// An assignment has an optimal certificate with each list of prices in range, one for each object. The checker finds
-/// no fault in it where no arc of a person is better at these prices than the chosen one by more than 1, and each
-/// object that nobody takes has price 0.
+/// no fault in it where two facts hold at these prices. No arc of a person is better than the chosen one by more than
+/// 1, and each object that nobody takes has price 0.
 pub fn assignments_pass()
     ensures spelled { (p : Problem) (choice : List Arc) (prices : List ℤ) → IsProblem p → IsAssignment p choice
         → length prices ≡ p.objects → All IsPrice prices
@@ -40,8 +40,9 @@ pub fn assignments_pass()
         → IsNoPriceLeft prices choice → fault_of p (Optimal (total_cost choice) (map pick_of choice) prices) ≡ None }
 {}
 
-/// An assignment has a bracket, whichever limit ended the run, with each list of prices in range, one for each object
-/// and no more than persons above 0, and the least cost that their dual bound allows. The checker finds no fault in it.
+/// An assignment has a bracket, whichever limit ended the run, with each list of prices in range, one for each object,
+/// of which no more than persons are above 0. Its bound is the least cost that their dual bound allows. The checker
+/// finds no fault in it.
 pub fn brackets_pass()
     ensures spelled { (p : Problem) (choice : List Arc) (prices : List ℤ) (lower : ℤ) (reason : Reason) → IsProblem p
         → IsAssignment p choice → length prices ≡ p.objects → All IsPrice prices → AreFewPriced p prices

@@ -27,7 +27,7 @@ pub enum CertRefused {
     /// This object, the first such, is picked by nobody and has a price above 0.
     #[error("object {object} is left over and has a price")]
     LeftOver { object: u32 },
-    /// The named persons are no Hall violator: a number is out of range, the objects are not fewer than the persons, or
+    /// The named persons are no Hall violator. A number is out of range, the objects are not fewer than the persons, or
     /// an arc of a named person leads to an object that is not named.
     #[error("the persons do not know too few objects")]
     NotHall,

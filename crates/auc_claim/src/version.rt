@@ -15,7 +15,7 @@ pub enum Version {
 }
 
 impl Version {
-    /// The version of a claim with so many picks and prices.
+    /// The version of a claim with these numbers of picks and prices.
     pub fn of_sizes(picks: usize, prices: usize) -> Version
         ensures { result ≡ version_of_sizes picks prices }
     {

@@ -44,8 +44,8 @@ pub(crate) fn fine_eps(rows: &FlatRows, spread: i64) -> i64
     (spread / mean_arcs(rows)).max(LAST_EPS)
 }
 
-/// The mean spread of a row, divided by the square root of the mean number of its arcs, and at least 1: for a run whose
-/// first eps was too fine.
+/// The mean spread of a row, divided by the square root of the mean number of its arcs, and at least 1. It is for a run
+/// whose first eps was too fine.
 pub(crate) fn coarse_eps(rows: &FlatRows, spread: i64) -> i64
     requires { IsEpsOf rows.now spread }
     ensures { IsEpsOf rows.now result }

@@ -22,8 +22,8 @@ fn is_own(owns: &[ShortArc], arc: &Arc) -> bool
     own.object == arc.object && i64::from(own.cost) == arc.cost
 }
 
-/// The place of a person's arc to an object in the problem's list, if the list has the order of the rows and the row is
-/// in rising order of objects. The caller checks it.
+/// The place of a person's arc to an object in the problem's list. The list has the order of the rows, and the row is
+/// in rising order of objects; the caller checks whether that is so.
 #[inline(always)]
 fn place_of(rows: &FlatRows, person: u32, object: u32) -> usize
     requires { person < length rows.now.rows }

@@ -3,9 +3,10 @@
 //! [`solve_direct`] answers as `auc_world::solve_serial` does, with no shards, letters or mails: by certificates in
 //! which the checker finds no fault.
 //!
-//! The method is the Gauss-Seidel auction with epsilon scaling (Bertsekas, 1979; Bertsekas and Eckstein, 1988), with
-//! shortest augmenting paths (Edmonds and Karp, 1972), column reduction (Jonker and Volgenant, 1987) and price
-//! refinement (Goldberg and Kennedy, 1995). A bid takes O(arcs of the person), a path at most O(arcs * log arcs).
+//! The method is the Gauss-Seidel auction with epsilon scaling (Bertsekas, 1979; Bertsekas and Eckstein, 1988).
+//! Shortest augmenting paths (Edmonds and Karp, 1972), column reduction (Jonker and Volgenant, 1987) and price
+//! refinement (Goldberg and Kennedy, 1995) speed it up. A bid takes O(arcs of the person), a path at most O(arcs * log
+//! arcs).
 //!
 //! Proved: what each answer says, and that no phase makes more bids than it may. Not proved: speed, or that a path is
 //! taken at all.

@@ -23,8 +23,8 @@ use crate::tuning::{CALM, LOOKS, PART, STARTED, STEADY, TABLE};
 use auc_market::LAST_EPS;
 use auc_rows::FlatRows;
 
-/// What the rules need of a problem; the number of bids of the last phase; and how many phases in a row took about as
-/// many bids as the one before.
+/// What the rules need of a problem, and the number of bids of the last phase. `steady` is the number of phases in a
+/// row that took about as many bids as the one before.
 #[derive(Clone, Copy)]
 pub(crate) struct Rules {
     persons: u64,

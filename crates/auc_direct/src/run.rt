@@ -51,8 +51,8 @@ fn play_anew<W: Watch>(
 }
 
 /// A phase from the prices of the market, in which nobody keeps an object, and others after it, each from the prices of
-/// the one before. The last of them is the one at the last eps, the first that a limit stops, or the one after which
-/// refinement shows that the assignment has the least cost. Each may make `bids` bids.
+/// the one before. It ends after the phase at the last eps, or after the first that a limit stops. It also ends where
+/// refinement shows that the assignment has the least cost. Each phase may make `bids` bids.
 fn play_phases<W: Watch>(
     market: &mut Market<'_>,
     rows: &FlatRows,

@@ -217,14 +217,16 @@ pub fn solve_direct(
 /// persons.
 ///
 /// Each person in order keeps an object that is within 1 of the best at the start prices, and that no person before has
-/// kept; the others bid. Where there are more objects than persons, an object that nobody has kept begins at price 0. A
-/// person who has kept an object and would now lose more than 1 by it leaves it, and its price is 0 too. Where that
-/// doesn't end within a few passes over all persons, the run begins with no prices.
+/// kept; the others bid. Where there are more objects than persons:
+///
+/// - An object that nobody has kept begins at price 0.
+/// - A person who has kept an object and would now lose more than 1 by it leaves it, and its price is 0 too.
+/// - Where that doesn't end within a few passes over all persons, the run begins with no prices.
 ///
 /// A limit on bids counts from the prices that are left then: clause `limit`. With as many objects as persons these are
 /// the start's.
 ///
-/// With as many objects as persons, where four bids a person don't give each person an object, the run goes on from
+/// With as many objects as persons, four bids a person may not give each person an object. Then the run goes on from
 /// there in phases, as one without a start does.
 ///
 /// Takes two passes over the arcs for what persons keep, and with more objects than persons up to eight more; beside

@@ -48,9 +48,11 @@ fn first_fault(persons: u32, objects: u32, arcs: &[Arc]) -> Option<ListFault>
 }
 
 /// The first fault of these numbers of persons and objects and these arcs, or None where they are a problem; `objects`
-/// 0 means as many as persons. Faults are searched for in the order in which a text would be read: the number of
-/// persons, that of objects, and then each arc: whether it is one too many, its person, its object, its cost. Takes
-/// O(arcs) time.
+/// 0 means as many as persons.
+///
+/// Faults are searched for in the order in which a text would be read: the number of persons, that of objects, and then
+/// each arc. Of an arc it is first whether it is one too many, then its person, its object and its cost. Takes O(arcs)
+/// time.
 pub fn list_fault(persons: u32, objects: u32, arcs: &[Arc]) -> Option<ListFault>
     ensures exact { result ≡ list_fault persons objects arcs.now }
     ensures none { result ≡ None ↔ IsProblem (problem_from persons objects arcs.now) }

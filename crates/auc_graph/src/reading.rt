@@ -50,8 +50,9 @@ impl ReadLimits {
 /// tokens after it are an arc: person, object, cost. In the text persons and objects are numbered from 1. The same pair
 /// listed twice is two arcs, and no arc at all is a lawful list.
 ///
-/// `limits.objects` is the number of objects, of which there are as many as persons where it is 0; `limits.arcs` is the
-/// greatest number of arcs that are read; `limits.reads` is ignored here.
+/// - `limits.objects` is the number of objects; 0 means as many as persons.
+/// - `limits.arcs` is the greatest number of arcs that are read.
+/// - `limits.reads` is ignored here.
 ///
 /// # Errors
 ///
@@ -73,7 +74,7 @@ pub fn read_arcs(alloc: Global, bytes: &[u8], limits: ReadLimits) -> Result<ArcL
     problem_behind(limits.arcs, stage, arcs, token)
 }
 
-/// The problem that the text of a reader reads as, as [`read_arcs`] says, or the first fault; no more of the text is
+/// The problem that the text of a reader reads as, as [`read_arcs`] says, or the first fault. No more of the text is
 /// kept than 32 bytes of a token that isn't finished.
 ///
 /// `limits.objects` is the number of objects, `limits.arcs` the greatest number of arcs that are read, and
@@ -87,7 +88,7 @@ pub fn read_arcs(alloc: Global, bytes: &[u8], limits: ReadLimits) -> Result<ArcL
 /// memory was refused. Each of these comes whatever fault of the text was seen before. Else the answer is that of
 /// [`read_arcs`] on the whole text.
 ///
-/// Takes O(length) time, 16 bytes of memory an arc, and 64 kB for a piece of the text, which are asked for before the
+/// Takes O(length) time, 16 bytes of memory an arc, and 64 kB for a piece of the text. These are asked for before the
 /// first read: none of them is on the stack.
 pub fn read_arcs_from<R: Read>(
     alloc: Global,

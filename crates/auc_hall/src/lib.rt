@@ -1,5 +1,5 @@
 //! Gives each person an object by one of the person's arcs, no object twice, or returns a Hall violator: persons who
-//! together have arcs to fewer objects than they number. A planner has to change something there.
+//! together have arcs to fewer objects than they number. It shows a planner why there is no full assignment.
 //!
 //! The method is augmenting paths by breadth-first search (Kuhn, 1955), and for the quick test push and relabel
 //! (Goldberg and Tarjan, 1988). [`complete`] takes O(persons * arcs) time at most, and mostly far less: a search scans

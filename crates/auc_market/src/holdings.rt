@@ -70,7 +70,7 @@ impl Holdings {
         self.open();
     }
 
-    /// A person gives up the object held, whose price is then 0.
+    /// A person leaves the object held, whose price is then 0.
     pub(crate) fn leave(&mut self, person: u32)
         requires person { person < length self.old.owns.items }
         requires price { (own_at self.old.owns.items person).object < length self.old.prices.items }

@@ -8,9 +8,9 @@
 //! Proved: each move keeps the nine laws on [`Market`]. Nothing is proved of what a search proposes; a move tries it.
 //! Which moves are made, and when, is the caller's choice. No law depends on it.
 //!
-//! `market.rt` has the laws and the moves between phases, `phase.rt` a phase. Below it are `turns.rt` and `chain.rt`
-//! (chains of bids, which `pace.rt` ends by a search), `step.rt` (a bid), `path.rt` (an augmenting path) and
-//! `refine.rt` (price refinement); `starts.rt` seats persons at start prices before there is a market.
+//! `market.rt` has the laws and the moves between phases, `phase.rt` a phase. Chains of bids are in `turns.rt` and
+//! `chain.rt`, a bid in `step.rt`, and `pace.rt` says when a search ends a chain. `path.rt` takes augmenting paths,
+//! `refine.rt` refines prices, and `starts.rt` seats persons at start prices.
 #![tactic(auto)]
 
 mod best;

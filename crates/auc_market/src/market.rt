@@ -10,10 +10,15 @@
 //! 8. Eps is from 1 to the scaled spread of the costs, or 1; and each person has an arc.
 //! 9. Each candidate list is right: no arc that it leaves out has a value below its bound.
 //!
-//! A move takes the market from one such state to another: [`Market::bid`] (a bid is an award, as in Gauss-Seidel),
-//! [`Market::path`] (a shortest augmenting path, or the Hall violator that it has reached), [`Market::refine`] (price
-//! refinement) and [`Market::open`] (the next eps). When each is made is strategy, and no answer depends on it. Starts
-//! are seated before there is a market (`starts.rt`, `adopt.rt`).
+//! A move takes the market from one such state to another:
+//!
+//! - [`Market::bid`]: a bid is an award, as in Gauss-Seidel.
+//! - [`Market::path`]: a shortest augmenting path, or the Hall violator that the search has reached.
+//! - [`Market::refine`]: price refinement.
+//! - [`Market::open`]: the next eps.
+//!
+//! When each is made is strategy, and no answer depends on it. Starts are seated before there is a market (`starts.rt`,
+//! `adopt.rt`).
 
 ghost use Rattle.std.specs.Prelude.{true, ◌≡◌, ◌≢◌, ◌≤◌, ◌<◌, ℕ, pos, length, IfErr, IfNone, IfOk, IfSome, OnOk};
 ghost use Rattle.auc_rows.specs.Rows.{EachHasArc};

@@ -7,8 +7,8 @@ ghost use Rattle.auc_market.specs.Scan.{IsFound, IsPricedRow, IsScale, IsValue, 
 
 use auc_rows::ShortArc;
 
-/// The result of a pass: the least value; the least value of the other arcs (the greatest number where there are none);
-/// and the place of the least value in the row.
+/// The result of a pass: the least value, the least value of the other arcs, and the place of the least value in the
+/// row. Where there are no other arcs, the second is the greatest number.
 #[derive(Clone, Copy)]
 pub(crate) struct Found {
     pub(crate) value: i64,

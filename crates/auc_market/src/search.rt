@@ -13,8 +13,9 @@ use std::collections::BinaryHeap;
 /// `near` of the free person. `near` of an object is this less the length of the path to it: std's heap is a max-heap.
 const NEAREST: u64 = 4_611_686_018_427_387_904;
 
-/// The label of an object, valid in the search of this number: `near`; the place in the taker's row of the arc by which
-/// the taker would get the object; and the object that the taker would leave for it, NOBODY for the free person.
+/// The label of an object, valid in the search of this number. `place` is the place, in the taker's row, of the arc by
+/// which the taker would get the object. `before` is the object that the taker would leave for it, NOBODY for the free
+/// person.
 #[derive(Clone, Copy)]
 struct Label {
     near: u64,
@@ -60,10 +61,16 @@ struct Taker {
     before: u32,
 }
 
-/// Room for searches: labels of all objects, with the number of the present search; the heap of held objects, the
-/// closest first; the closest object that nobody holds; the settled objects in order; the number of arcs scanned. And
-/// what the search proposes: prices that rise, and the arcs by which objects are taken, each by its place in the row of
-/// its taker.
+/// Room for searches:
+///
+/// - labels of all objects, with the number of the present search;
+/// - the heap of held objects, the closest first;
+/// - the closest object that nobody holds;
+/// - the settled objects in order;
+/// - the number of arcs scanned.
+///
+/// And the proposal of a search: prices that rise, and the arcs by which objects are taken, each by its place in the
+/// row of its taker.
 #[derive(Drop)]
 pub(crate) struct Search {
     labels: Vec<Label>,

@@ -159,8 +159,8 @@ pub fn ends_stay()
     ensures all { (g : Phase) (v : World) → Reached g v → v.end ≡ Some End.All → v.count ≡ g.persons }
 {}
 
-/// Where nothing can move, the end is set: there is no reached world before the end in which all outboxes and mails are
-/// empty and nobody bids, and none in which no bid, post or take moves anything.
+/// Where nothing can move, the end is set. In no reached world before the end are all outboxes and mails empty while
+/// nobody bids. And in each reached world before the end some bid, post or take moves something.
 pub fn no_stall()
     ensures still { (g : Phase) (v : World) → 0 < g.persons → Reached g v → IsStill g v → v.end ≢ None }
     ensures rests { (g : Phase) (v : World) → 0 < g.persons → Reached g v → Rests g v → v.end ≢ None }

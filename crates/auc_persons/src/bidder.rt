@@ -106,7 +106,7 @@ impl Bidder {
         self.blocks.scan(own, place, lists)
     }
 
-    /// The best arc of a person: by the list or the blocks where these decide it, and else by a pass over the row; none
+    /// The best arc of a person: by the list or the blocks where these decide it, and else by a pass over the row. None
     /// where the person has no arc.
     // Not inlined: docs/CODEGEN.md, "A search in line".
     #[inline(never)]
@@ -171,8 +171,8 @@ impl Bidder {
     /// `copies` are indexed by object, and no copy has fallen since this was made; `eps` is in scaled costs, as the
     /// copies are. For a person of another shard than this was made for the bid is the same, but found more slowly.
     ///
-    /// Takes a pass over a short row. For a longer row most bids take a pass over a short list, and the others a pass over
-    /// the row. Of a row of more than 256 arcs that pass scans a part. No memory.
+    /// Takes a pass over a short row. For a longer row most bids take a pass over a short list, and the others a pass
+    /// over the row. Of a row of more than 256 arcs that pass scans a part. No memory.
     // Inlined, so that the result stays in registers.
     #[inline(always)]
     pub fn bid(&mut self, rows: &Rows, eps: i64, person: u32, copies: &[i64]) -> Option<Bid>

@@ -9,8 +9,8 @@
 //! `specs/Persons.antt`. With a [`Bidder`] beside the shard, or beside a caller's own prices, the bids are the same and
 //! found sooner ([`Bidder::bid`], [`PersonShard::next_bid_by`]).
 //!
-//! A short row is scanned as it is or as a sorted copy (`specs/Sorted.antt`), a longer one by a candidate list
-//! (`specs/Candidates.antt`), above 256 arcs also by blocks with bounds (`specs/Blocks.antt`). See `bidder/way.rt`.
+//! A short row is scanned as it is or as a sorted copy (`specs/Sorted.antt`). A longer one has a candidate list
+//! (`specs/Candidates.antt`), above 256 arcs also blocks with bounds (`specs/Blocks.antt`). See `bidder/way.rt`.
 #![tactic(auto)]
 
 mod bidder;

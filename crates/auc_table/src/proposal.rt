@@ -83,9 +83,11 @@ fn propose_full(alloc: Global, table: &Table, looks: u64) -> Result<Option<Propo
 /// object should be better for a person than the person's own, and an object that nobody has should have price 0.
 ///
 /// The method is a row reduction, which is an auction at eps 0 that gives up early, from prices 0, and then shortest
-/// augmenting paths (Jonker and Volgenant, "A shortest augmenting path algorithm for dense and sparse linear assignment
-/// problems", Computing 38, 1987). Takes O(persons^2 * objects) time at most, and at most 44 bytes of memory an object
-/// and 4 a person, beside a copy of the table, 8 bytes an entry, where `gap` is given.
+/// augmenting paths. Source: Jonker and Volgenant, "A shortest augmenting path algorithm for dense and sparse linear
+/// assignment problems", Computing 38, 1987.
+///
+/// Takes O(persons^2 * objects) time at most. Takes at most 44 bytes of memory an object and 4 a person, and where
+/// `gap` is given a copy of the table, 8 bytes an entry.
 ///
 /// # Errors
 ///

@@ -16,7 +16,7 @@ use std::snapshot::Snapshot;
 use std::sync::Wait;
 use std::thread::{Promise, PromisedHandle, Scope, Threads};
 
-/// The promise of a thread of the persons: it bid and heard, it reports a fall only where its seat shows one, and is
+/// The promise of a thread of the persons: it bid and heard. It reports a fall only where its seat shows one, and is
 /// stuck only where a person has no arc.
 #[derive(Drop)]
 pub(crate) struct Bought<O: MailBrand, P: MailBrand, H: MailBrand> {

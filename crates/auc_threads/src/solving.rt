@@ -114,15 +114,20 @@ fn unsolved(alloc: Global, answer: Answer) -> Solved
 /// Else phases run as those of [`auc_world::solve_serial`], from prices of 0 at [`first_eps`] on, each by
 /// [`phase_threads`]. The next one is at [`next_eps`] and the prices that were left, where each person got an object
 /// and the mails settled, if trails are kept. The last phase decides: `Optimal` and `Bracket` are claims of its holders
-/// and prices that have passed the checker. `Broken` is answered where its mails didn't settle, nothing was reported of
-/// its end, a price fell, a letter was stray, or its holders make no claim; never for a person with no arc.
+/// and prices that have passed the checker.
+///
+/// `Broken` is answered for one of these causes, never for a person with no arc:
+///
+/// - The mails of the last phase didn't settle, or nothing was reported of its end.
+/// - A price fell, or a letter was stray.
+/// - Its holders make no claim.
 ///
 /// Every worker of a shard passes the gate before each time it takes the lock of a mail. Where `limits.audit` is above
 /// 0, each mail and each seat at it have places for as many calls, and the phases have trails. Nothing is said of
 /// whether a phase ends.
 ///
-/// Takes the time of the search and of the bids, each O(arcs of the person); beside the memory of the problem and its
-/// rows, that of one phase and of the trails of all.
+/// Takes the time of the search and of the bids, each O(arcs of the person). Takes the memory of the problem and its
+/// rows, of one phase, and of the trails of all.
 ///
 /// # Errors
 ///

@@ -87,9 +87,9 @@ impl<'a> World<'a> {
 }
 
 /// Where the hub has counted as many as there are persons, the holders' arcs are an assignment. At eps 1 the checker
-/// finds no fault in it with the true prices, so it has the least cost. For that there are as many objects as persons,
-/// or what nobody holds has price 0, as in each world that was made with every price 0 (clause `unheld` of
-/// [`World::turn`]). A law, which does nothing.
+/// finds no fault in it with the true prices, so it has the least cost. That needs as many objects as persons, or price
+/// 0 of each object that nobody holds. The second is so in each world that was made with every price 0 (clause `unheld`
+/// of [`World::turn`]). A law, which does nothing.
 pub fn counted_holders_pass_the_checker()
     ensures { (p : Problem) (t : Table) (shards : ℕ) (v : Model) (prices : List ℤ) → IsProblem p → IsTable t
         → IsTableOf p t → (IsSquare p ⊎ ((j : ℕ) → v.holder j ≡ None → v.price j ≡ pos 0))

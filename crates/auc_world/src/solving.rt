@@ -150,7 +150,7 @@ fn solve_rows(
 /// has left, with all persons free. A phase is a new world that is played in whole rounds, in which every shard has its
 /// turns in order, until it ends.
 ///
-/// Where a limit ends a phase, the answer is a `Bracket`: the holders' arcs are completed to an assignment of any cost,
+/// Where a limit ends a phase, the answer is a `Bracket`. The holders' arcs are completed to an assignment of any cost,
 /// and the prices give a lower bound (dual bound) of the cost of all. `Broken` is never answered. `limits.audit` is
 /// ignored.
 ///
@@ -174,8 +174,8 @@ pub fn solve_serial(alloc: Global, problem: &ArcList, limits: &Limits) -> Result
     }
 }
 
-/// Solves a problem as [`solve_serial`] does, but from start prices (a warm start), such as those of a certificate of
-/// the same problem with other costs ([`auc_claim::start_prices`]): in one phase, at the last eps.
+/// Solves a problem as [`solve_serial`] does, but from start prices (a warm start), in one phase at the last eps. They
+/// may be those of a certificate of the same problem with other costs ([`auc_claim::start_prices`]).
 ///
 /// The start prices are scaled costs, indexed by object, from 0 to 2^60, and as many as the persons. The answer is as
 /// good from any of them; good ones save bids, and bad ones cost bids.

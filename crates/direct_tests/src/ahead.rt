@@ -53,10 +53,10 @@ fn listening() -> Ear {
     }
 }
 
-/// Groups of three, of whom each has two objects at cost 0 and the third one at 10. And others who have their own
-/// object at cost 0, the next one at 100, and the third one of a group at 1, so that column reduction doesn't give it
-/// its price. The first phase sells the third object at a great eps, and the last phase would take many small steps up
-/// to that price.
+/// Groups of three, of whom each has two objects at cost 0 and the third one at 10. The other persons each have their
+/// own object at cost 0, the next one at 100, and the third one of a group at 1. So column reduction doesn't give that
+/// object its price. The first phase sells it at a great eps, and the last phase would take many small steps up to that
+/// price.
 fn groups(rt: &HostRuntime, groups: u32, others: u32) -> Result<ArcList, Fail>
     requires some { 1 ≤ groups }
     requires groups { groups ≤ 1000 }

@@ -8,8 +8,8 @@ use auc_direct::{DirectLimits, solve_direct_from};
 use auc_graph::{Arc, ArcList};
 use std::test::*;
 
-/// Three persons, each of whom has one of two objects at cost 0, or pays the greatest cost; the last one can't, so it
-/// is no full table, which would be searched without bids.
+/// Three persons, each of whom has one of two objects at cost 0, or pays the greatest cost. The last one doesn't have
+/// that, so it is no full table, which would be searched without bids.
 const THREE: &str = "3\n1 1 0 1 2 0 1 3 1000000000\n2 1 0 2 2 0 2 3 1000000000\n3 1 0 3 2 0\n";
 
 /// A certificate of another problem, at prices of 0.

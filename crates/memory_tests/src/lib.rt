@@ -5,8 +5,8 @@
 //! the one with ample memory: at once, or, where memory was refused, when the same call is made again. The state of the
 //! call's arguments has to be the one that its contract says.
 //!
-//! Growths are refused from outside, by `cases/growth/run`, which runs each test again and again: with the first growth
-//! after the mark refused, with the second, and so on until none is met. Under the gate nothing is refused, and the
+//! Growths are refused from outside, by `cases/growth/run`, which runs each test again and again. It refuses the first
+//! growth after the mark, then the second, and so on until none is met. Under the gate nothing is refused, and the
 //! answers are those with ample memory.
 #![tactic(auto)]
 

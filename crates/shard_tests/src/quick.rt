@@ -17,7 +17,7 @@ fn finds(rt: &HostRuntime, text: &str) -> Result<bool, Fail> {
 }
 
 /// A problem in which each person but the last has arcs to the object of the person's number, to the next one, and to
-/// `before` objects before it; the last one has arcs to the `first` first ones only.
+/// `before` objects before it. The last person has arcs to the `first` first objects only.
 fn stairs(rt: &HostRuntime, before: u32, first: u32) -> Result<String, AllocError> {
     let mut text = String::new(rt.alloc());
     text.push_str("600\n")?;

@@ -1,4 +1,4 @@
-//! Bids by a `Bidder` beside a shard are those of a whole pass, for rows of each length that has a method of its own,
+//! Bids by a `Bidder` beside a shard are those of a whole pass. The rows have each length that has a method of its own,
 //! in any order and in rising order.
 
 ghost use Rattle.std.specs.Prelude.{◌<◌};

@@ -74,7 +74,7 @@ fn closed_boxes_swallow_awards(rt: HostRuntime) -> Result<(), Fail> {
     Ok(())
 }
 
-/// The first two persons both bid for the second object, with one bid for each shard: the first shard stops while its
+/// The first two persons both bid for the second object, with one bid for each shard. The first shard stops while its
 /// bid waits, and the bid of the second one finds its box closed. A closed box keeps the bid that waits there, and
 /// takes no other; the shards go on after the end.
 const KEPT: [Step; 18] = [

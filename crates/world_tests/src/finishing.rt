@@ -95,7 +95,7 @@ fn holders_without_a_place(rt: HostRuntime) -> Result<(), Fail> {
     Ok(())
 }
 
-/// Limits are kept apart from guards.
+/// Limits are distinguished from guards.
 #[test]
 fn stops_by_reason(rt: HostRuntime) {
     assert_same(&rt, stop_of(Why::Ceiling), Ok(Reason::Ceiling));

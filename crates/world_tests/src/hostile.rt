@@ -31,7 +31,7 @@ fn steps_at(beyond: u32) -> [Step; 13] {
 }
 
 /// Turns out of range at the start, in the middle of each of six rounds, where letters wait everywhere, and after the
-/// end: 29 each time, with objects of another shard, and the state of the world before and after them.
+/// end. There are 29 each time, with objects of another shard. The state of the world is taken before and after them.
 fn out_of_range_steps(rt: &HostRuntime) -> Result<Vec<Step>, Fail> {
     let mut steps = Vec::new(rt.alloc());
     for _ in 0..6 {

@@ -8,8 +8,8 @@ ghost use Rattle.auc_persons.specs.Rising.{Drawn};
 
 use auc_graph::RowArc;
 
-/// The least value so far; the least value of the other arcs (the greatest number where there is none); and the best
-/// arc itself, so that a pass counts nothing but its place.
+/// The least value so far, the least value of the other arcs, and the best arc itself, so that a pass counts nothing
+/// but its place. Where there are no other arcs, the second is the greatest number.
 #[derive(Clone, Copy)]
 pub(crate) struct Nearest<'a> {
     pub value: i64,

@@ -1,5 +1,5 @@
-//! The candidate list of one person: the few arcs of the row that were best when the list was made, and a bound that no
-//! other arc of the row has a value below.
+//! The candidate list of one person: the few arcs of the row that were best when the list was made, and a bound. No
+//! other arc of the row has a value below the bound.
 //!
 //! Copies of prices never fall, so a bound of an arc's value stays one. How the bound is found doesn't change any bid;
 //! it is in `shortlist/making.rt`.

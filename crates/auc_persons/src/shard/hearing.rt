@@ -111,8 +111,8 @@ impl PersonShard {
     ///
     /// # Errors
     ///
-    /// Nothing is changed by a letter that is refused. [`PersonFault::Stray`] comes first: another kind of letter, a
-    /// person or an object that isn't the shard's or is out of range, a price out of range, or a state that doesn't
+    /// Nothing is changed by a letter that is refused. [`PersonFault::Stray`] comes first. Its causes are another kind
+    /// of letter, a person or an object out of range or not the shard's, a price out of range, and a state that doesn't
     /// fit. Then [`PersonFault::Fell`]: the price is below the copy.
     // docs/CODEGEN.md, "Letters taken in line".
     #[inline(always)]

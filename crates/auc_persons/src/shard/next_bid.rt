@@ -45,9 +45,13 @@ impl PersonShard {
 
     /// The bid of the person who has been free longest, who waits afterwards. Idle where nobody is free.
     ///
-    /// Stop says why the person can't bid, and nothing is changed then: Bids where the shard has used up its bids, else
-    /// Stuck where the person has no arc, else Ceiling where the bid would be above the greatest price. `rows` are the
-    /// rows of the problem that the shard was made for; `eps` is in scaled costs.
+    /// Stop says why the person can't bid, and nothing is changed then. The first of these causes decides:
+    ///
+    /// - Bids: the shard has used up its bids.
+    /// - Stuck: the person has no arc.
+    /// - Ceiling: the bid would be above the greatest price.
+    ///
+    /// `rows` are the rows of the problem that the shard was made for; `eps` is in scaled costs.
     ///
     /// Takes one pass over the person's row, O(arcs of the person) time and no memory.
     #[tactic(auto, using(crate::proofs::Rise::shape_bid, crate::proofs::Rise::shape_same))]

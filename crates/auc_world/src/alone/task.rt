@@ -28,9 +28,11 @@ impl<'a> Model for Task<'a> {
     ghost view = { λ t. record { table = t.rows.now; limits = t.limits.now; prices = t.prices.now; eps = t.eps } };
 }
 
-/// Whether the machine with one shard of each kind may stand in for a `World`. There is one shard of each kind, and as
-/// many letters may wait as is usual. The bid limit can't exhaust a lane, since a bid is answered by two letters at
-/// most.
+/// Whether the machine with one shard of each kind may stand in for a `World`, which is so where:
+///
+/// - there is one shard of each kind;
+/// - as many letters may wait as is usual;
+/// - the bid limit can't exhaust a lane, since a bid is answered by two letters at most.
 pub(crate) fn may_play_alone(limits: &Limits) -> bool
     ensures { IsTrue result → MayPlayAlone limits.now }
 {

@@ -10,8 +10,8 @@ use auc_model::{Turn, TurnReply};
 impl<'a> World<'a> {
     /// Takes one turn. O(arcs of the person) for a bid, and O(1) beside it and the mail's own calls; no memory.
     ///
-    /// The reply is `Nothing` where nothing can move: there is no such shard, box or object; the outbox isn't empty, or
-    /// is; no letter waits; nobody is free; the box is closed. Then the world is unchanged.
+    /// The reply is `Nothing` where nothing can move, for one of these causes. There is no such shard, box or object;
+    /// the outbox isn't empty, or is; no letter waits; nobody is free; the box is closed. Then the world is unchanged.
     ///
     /// The price of an object that nobody holds is the one with which the world was made: clause `unheld`, turn by
     /// turn.

@@ -26,7 +26,7 @@ impl Version {
         }
     }
 
-    /// How many objects a certificate numbers at most.
+    /// The greatest number of objects that a certificate numbers.
     pub fn most_objects(self) -> u32
         ensures most { result ≡ most_in self }
         ensures few { result ≤ MOST_OBJECTS }

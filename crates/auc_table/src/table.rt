@@ -7,7 +7,7 @@ pub struct Table<'a> {
     pub persons: u32,
     /// The number of entries of a row.
     pub objects: u32,
-    /// The number of places from the begin of a row to that of the next one.
+    /// The number of places from the start of a row to that of the next one.
     pub stride: usize,
     /// All costs.
     pub costs: &'a [i64],

@@ -25,7 +25,7 @@ use std::sync::Wait;
 use std::thread;
 use std::thread::{PromisedHandle, Scope, Threads};
 
-/// The state of a phase's workers at its begin.
+/// The state of a phase's workers at its start.
 #[derive(Drop)]
 pub(crate) struct Starts<O: MailBrand, P: MailBrand, H: MailBrand> {
     pub(crate) persons: Vec<PersonWorker<O, P, H>>,

@@ -61,7 +61,7 @@ impl<'a> Model for World<'a> {
 }
 
 impl<'a> World<'a> {
-    /// The world at the begin of a phase: the prices are these, each copy of a price is that price, every person is
+    /// The world at the start of a phase: the prices are these, each copy of a price is that price, every person is
     /// free, and nothing was sent.
     ///
     /// `prices` are in scaled costs, indexed by object; `eps` is in scaled costs. `limits.audit` is ignored.

@@ -7,7 +7,7 @@ use auc_direct::{DirectLimits, may_start, solve_direct, solve_direct_from};
 use auc_graph::{ArcList, MOST_OBJECTS, ReadLimits, read_arcs};
 use std::test::*;
 
-/// More bids than any problem of these tests needs.
+/// Enough bids for each problem of these tests.
 pub const AMPLE: DirectLimits = DirectLimits { bids: 1_000_000 };
 
 /// The problem that a text reads as, with this number of objects, or as many as persons where that is 0.

@@ -74,7 +74,7 @@ fn all_persons(alloc: Global, persons: u32) -> Result<VecDeque<u32>, AllocError>
 }
 
 impl AloneWorld {
-    /// The state at the begin of a phase: nobody has an object, and each person is free. Takes O(persons + objects)
+    /// The state at the start of a phase: nobody has an object, and each person is free. Takes O(persons + objects)
     /// time and memory; no round takes any.
     ///
     /// # Errors

@@ -22,7 +22,7 @@ pub fn limits_are()
     ensures amounts { (amount : ℤ) → IsTrue (is_amount amount) ↔ IsPrice amount }
 {}
 
-/// Bids on an object never lower its price, and nothing changes where the object gets no new holder.
+/// Bids on an object never lower its price. Where nobody holds the object after them, it is unchanged.
 pub fn awards_raise_prices()
     ensures rises { (eps : ℤ) (sale : Sale) (bids : List ABid) → IsEps eps → sale.price ≤ℤ (award_all eps sale bids).price }
     ensures unheld { (eps : ℤ) (sale : Sale) (bids : List ABid) → (award_all eps sale bids).holder ≡ None

@@ -2,6 +2,8 @@
 //!
 //! Persons, objects, arcs and shards are numbered from 0. All types are small `Copy` values. The award rule, and the
 //! shard that a letter goes to, are defined in `specs/Award.antt` and `specs/Routing.antt`.
+//!
+//! Proved: bids never lower a price, and an object that nobody holds after them is unchanged.
 #![tactic(auto)]
 
 mod law;

@@ -10,7 +10,7 @@ pub(crate) const NOBODY: u32 = 4_294_967_295;
 /// The number of bids of a chain of displaced persons. The person displaced by the last one takes a path.
 const CHAIN: u32 = 4;
 
-/// The best object of a person, and how much its key may rise until another one is as good; 0 where there is no other
+/// The best object of a person, and how much its price may rise until another one is as good; 0 where there is no other
 /// one.
 #[derive(Clone, Copy)]
 struct Best {

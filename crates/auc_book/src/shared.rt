@@ -135,9 +135,9 @@ impl<T: Copy, N: MailBrand> SharedMail<T, N> {
         HeldMail::new(locked, self.bells.as_slice())
     }
 
-    /// Posts `item` to the box `to` in the name of the seat's worker, and returns the letter's number in its lane, from
-    /// 1. Wakes the threads that wait at this box, and all that wait at this mail where the trail has no place left for
-    /// more calls.
+    /// Posts `item` to the box `to` in the name of the seat's worker, and returns the letter's number (from 1) in its
+    /// lane. Wakes the threads that wait at this box, and all that wait at this mail where the trail has no place left
+    /// for more calls.
     ///
     /// Refused as by `MailState::post`; after `TrailFull` the seat counts one call more that was turned away. Takes
     /// O(1) time under the lock, and no memory.

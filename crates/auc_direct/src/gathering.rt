@@ -22,8 +22,8 @@ fn is_own(owns: &[ShortArc], arc: &Arc) -> bool
     own.object == arc.object && i64::from(own.cost) == arc.cost
 }
 
-/// The place of a person's arc to an object in the problem's list. The list has the order of the rows, and the row is
-/// in rising order of objects; the caller checks whether that is so.
+/// The place in the problem's list of a person's arc to an object, if the list has the order of the rows and the row is
+/// sorted by object. The caller checks whether the arc is there.
 #[inline(always)]
 fn place_of(rows: &FlatRows, person: u32, object: u32) -> usize
     requires { person < length rows.now.rows }
@@ -32,8 +32,8 @@ fn place_of(rows: &FlatRows, person: u32, object: u32) -> usize
     rows.start(person).saturating_add(before)
 }
 
-/// The holder of each object and the place of the holder's arc, where the rows let it be guessed; else none. O(persons
-/// * log arcs of a person).
+/// The holder of each object and the place of the holder's arc, where the rows let it be guessed; else none.
+/// O(persons * log arcs of a person).
 fn guessed(
     alloc: Global,
     problem: &ArcList,

@@ -193,8 +193,8 @@ fn concluded(
 /// The method is the auction with epsilon scaling (Bertsekas, 1979; Bertsekas and Eckstein, 1988), in its Gauss-Seidel
 /// form. Two chains of bids take turns, and the person displaced in a chain bids next in it. Long chains end by
 /// successive shortest paths (Edmonds and Karp, 1972). The persons reached by a search that finds no free object are a
-/// Hall violator. Columns are reduced before (Jonker and Volgenant, 1987). Price refinement (Goldberg and Kennedy,
-/// 1995) saves the last phases where the assignment has the least cost before them. The rules are at the head of
+/// Hall violator. Columns are reduced before (Jonker and Volgenant, 1987). Where the assignment has the least cost
+/// before the last phases, price refinement saves them (Goldberg and Kennedy, 1995). The rules are at the head of
 /// `rules.rt`.
 ///
 /// # Errors

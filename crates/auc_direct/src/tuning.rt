@@ -24,8 +24,8 @@ pub(crate) const PACING: Pacing = Pacing {
     slice: 4_194_304,
 };
 
-/// Prices are refined once eps is at most one unit of cost divided by this. At eight times that eps, a phase on whole
-/// costs has mostly found a least assignment.
+/// Prices are refined once the next eps is at most one unit of cost divided by this. On whole costs a phase at eight
+/// times as much has mostly found a least assignment.
 pub(crate) const PART: i64 = 80;
 
 /// The number of scans that a refinement may make for each bid of the phase before it.

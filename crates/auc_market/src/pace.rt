@@ -10,8 +10,8 @@ use auc_rows::FlatRows;
 pub struct Pacing {
     /// The time of one arc of a path search, in arcs of a bid.
     pub search: u64,
-    /// The length of a chain before the last phase, in times of a search. The first search is estimated at all arcs
-    /// divided by this number.
+    /// Before the last phase a chain may take this many times as long as a search. And the first search is estimated to
+    /// scan all arcs divided by this number.
     pub early: u64,
     /// About how many arcs are scanned between two questions to a watch.
     pub slice: u64,
@@ -24,7 +24,8 @@ pub struct Pace {
     // About how many arcs a bid scans; and how many bids take as long as a search.
     arcs_a_bid: u64,
     search: u64,
-    // The length of a chain in times of a search; and the same as a number of bids that each displace a person.
+    // How many times as long as a search a chain may take. `patience` is that as a number of bids, each of which
+    // displaces a person.
     times: u64,
     pub(crate) patience: u64,
     // The number of such bids since the last search, where a slice of a phase has ended.

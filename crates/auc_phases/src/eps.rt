@@ -26,9 +26,9 @@ fn scaled_spread(rows: &Rows) -> i64
     scale * rows.cost_spread()
 }
 
-/// The eps of the first phase, in scaled costs: an eighth of the scaled spread of all costs, rounded down, and at least
-/// 1. Where there are more objects than persons it is 1, so that the first phase is the only one. A later phase would
-/// begin with prices of objects that nobody holds, and leave some of them unsold. O(1).
+/// The eps of the first phase, in scaled costs: an eighth of the scaled spread of all costs, rounded down, but not
+/// below 1. Where there are more objects than persons it is 1, so that the first phase is the only one. A later phase
+/// would begin with prices of objects that nobody holds, and leave some of them unsold. O(1).
 pub fn first_eps(rows: &Rows) -> i64
     ensures is { result ≡ first_eps rows.now }
     ensures range { IsEps result }

@@ -100,8 +100,8 @@ fn named_phase<
 ///
 /// Nothing is said of whether it ends.
 ///
-/// Takes the time of the bids, each O(arcs of the person); O(shards * (persons + objects)) memory, and that for 3 * (2
-/// * shards + 2) * audit lines.
+/// Takes the time of the bids, each O(arcs of the person). Takes O(shards * (persons + objects)) memory, and that for
+/// 3 * (2 * shards + 2) * audit lines.
 ///
 /// # Errors
 ///

@@ -49,7 +49,7 @@ fn start_of(
 }
 
 /// The prices of a certificate, as start prices: scaled costs, indexed by object, as many as persons. A run may start
-/// from them on a problem whose arcs or costs have changed since (`auc_world::solve_serial_from`).
+/// from them on a problem whose arcs or costs may have changed since (`auc_world::solve_serial_from`).
 ///
 /// Only the prices are used. The picks, the cost and the bound aren't judged, and any prices from 0 to 2^60 are lawful:
 /// good ones save bids, and bad ones cost bids.

@@ -38,7 +38,7 @@ fn ran_out(ending: Ending) -> bool
 }
 
 impl<'a> Market<'a> {
-    /// Plays a slice of a phase, of at most `bids` bids. Persons who hold nothing yet bid.
+    /// Plays a slice of a phase, of at most `bids` bids, in which the persons who hold nothing bid.
     fn play_slice(&mut self, bids: u64, pace: &mut Pace) -> Result<Ending, Halt>
         ensures slice { IfOk result (λ e. IsSlice bids e self.old self.new) }
         ensures halt { IfErr result (IsHalt self.old.table) }
@@ -57,8 +57,8 @@ impl<'a> Market<'a> {
         Ok(Ending::Sold)
     }
 
-    /// Plays a phase of at most `bids` bids. Persons who hold nothing yet bid. Where the watch says no, it ends as a
-    /// phase whose bids have run out.
+    /// Plays a phase of at most `bids` bids, in which the persons who hold nothing bid. Where the watch says no, it
+    /// ends as a phase whose bids have run out.
     pub fn play<W: Watch>(
         &mut self,
         bids: u64,

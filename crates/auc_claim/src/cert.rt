@@ -28,8 +28,8 @@ pub enum CertParts {
         persons: Indices,
         objects: Indices,
     },
-    /// An assignment of this cost, and that none costs less than the lower bound. It names the limit that ended the run,
-    /// the bound, the total cost, a pick for each person, and a price for each object. The prices show the bound.
+    /// An assignment of this cost, and that none costs less than the lower bound. It names the limit that ended the
+    /// run, the bound, the total cost, a pick for each person, and a price for each object. The prices show the bound.
     Bracket {
         reason: Reason,
         lower: i64,

@@ -220,7 +220,7 @@ impl<'a> Market<'a> {
 
     /// Price refinement: raises prices, with at most `looks` scans of persons, until each person is within 1 of the
     /// best. The assignment has the least cost then, and eps is the last one. Returns whether that was reached. Where
-    /// it was begun and wasn't, nobody holds anything afterwards.
+    /// the refinement was begun but not finished, nobody holds anything afterwards.
     pub fn refine(&mut self, looks: u64) -> Result<bool, AllocError>
         requires square { self.old.table.objects ≡ length self.old.table.rows }
         ensures refined { OnOk result (IsRefinement self.old self.new) }

@@ -102,7 +102,7 @@ impl Rules {
 }
 
 /// The number of bids that a run from start prices may make at the last eps before it begins as a run without a start.
-/// With more objects than persons any number, since it may not begin so.
+/// With more objects than persons it may not begin so, and the number is any.
 pub(crate) fn bids_from_start(rows: &FlatRows) -> u64 {
     if rows.persons() < rows.objects() {
         return u64::MAX;

@@ -68,7 +68,7 @@ impl Pace {
         self.patience = self.search.saturating_mul(self.times).max(1);
     }
 
-    /// Takes in a search that has scanned so many arcs: the new estimate is the mean of the old one and this search.
+    /// Takes in a search that has scanned `looked` arcs: the new estimate is the mean of the old one and this search.
     pub(crate) fn learn(&mut self, looked: u64) {
         let bids = looked
             .saturating_mul(self.pacing.search)

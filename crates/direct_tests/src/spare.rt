@@ -9,7 +9,7 @@ use std::test::*;
 const OLD: &str =
     "4\n1 1 26 1 4 28 1 5 23 1 6 30\n2 2 10 2 3 25 2 5 -7 2 6 16\n3 2 30 3 3 30 3 4 24 3 5 -7 3 6 6\n4 1 20 4 2 28 4 4 9 4 5 -4 4 6 8\n";
 
-/// The same with two other costs, and its least assignment.
+/// The same with two costs raised, and its least assignment.
 const NEW: &str =
     "4\n1 1 51 1 4 28 1 5 23 1 6 30\n2 2 10 2 3 25 2 5 18 2 6 16\n3 2 30 3 3 30 3 4 24 3 5 -7 3 6 6\n4 1 20 4 2 28 4 4 9 4 5 -4 4 6 8\n";
 

@@ -47,7 +47,7 @@ fn no_bids_from_prices(rt: HostRuntime) -> Result<(), Fail> {
     Ok(())
 }
 
-/// Five persons, five objects; and the same with one other cost.
+/// Five persons, five objects; and the same with one cost raised.
 const FIVE: [&str; 2] = [
     "5\n1 1 13 1 2 24 1 3 20 1 4 6 1 5 1\n2 1 21 2 3 -3 2 4 -9 2 5 17\n3 1 15 3 2 -5 3 3 30 3 4 -1 3 5 -9\n4 1 4 4 3 1 4 4 3 4 5 4\n5 1 3 5 4 14 5 5 0\n",
     "5\n1 1 13 1 2 24 1 3 20 1 4 6 1 5 31\n2 1 21 2 3 -3 2 4 -9 2 5 17\n3 1 15 3 2 -5 3 3 30 3 4 -1 3 5 -9\n4 1 4 4 3 1 4 4 3 4 5 4\n5 1 3 5 4 14 5 5 0\n",

@@ -69,7 +69,7 @@ fn stops(rt: HostRuntime) -> Result<(), Fail> {
     Ok(())
 }
 
-/// A no after the first phase gets its result: the arcs of low cost. Nothing is held then, and an assignment that is
+/// A no after the first phase gives its result: the arcs of low cost. Nothing is held then, and an assignment that is
 /// completed from nothing has the arcs of high cost, at a thousand times the cost.
 #[test]
 fn keeps_the_last_assignment(rt: HostRuntime) -> Result<(), Fail> {

@@ -7,7 +7,7 @@ pub(crate) const BLOCK: usize = 16;
 /// The bound of a block that hasn't been scanned.
 pub(crate) const NO_BOUND: i64 = i64::MIN;
 
-/// A value that no arc of a block has a value below.
+/// A lower bound of the values of the arcs of a block.
 #[derive(Drop)]
 pub(crate) struct Bound {
     pub least: i64,

@@ -1,5 +1,5 @@
-//! How a run ends: what its last phase claims, or the guard that a stop stands for. Every claim passes the checker
-//! first, or is proved to pass it.
+//! How a run ends: the claim of its last phase, or the guard that a stop means. Each claim passes the checker first, or
+//! is proved to pass it.
 
 ghost use Rattle.std.specs.Prelude.{◌≡◌, List, length, All, IfOk, IfSome, IfNone};
 ghost use Rattle.auc_graph.specs.declared.arc.Arc.{Arc};
@@ -21,7 +21,7 @@ use auc_hall::{Matching, complete};
 use auc_letters::Why;
 use std::alloc::{AllocError, Global};
 
-/// What a stop stands for: the limit that ended the phase, or a guard that was hit.
+/// The meaning of a stop: the limit that ended the phase, or a guard.
 ///
 /// # Errors
 ///
@@ -41,7 +41,7 @@ pub fn stop_of(why: Why) -> Result<Reason, Guard>
     }
 }
 
-/// The certificate of these parts, where it has a text and the checker lets it pass.
+/// The certificate of these parts, where it has a text and passes the checker.
 fn certified(alloc: Global, problem: &ArcList, parts: CertParts) -> Result<Option<Cert>, AllocError>
     ensures some { IfOk result (λ o. IfSome o (λ c. (c ≡ parts) × IsCertified problem.now c)) }
     ensures none { IfOk result (λ o. IfNone o (IsCertified problem.now parts → ⊥)) }
@@ -56,8 +56,8 @@ fn certified(alloc: Global, problem: &ArcList, parts: CertParts) -> Result<Optio
     }
 }
 
-/// The claim of least cost that holders and prices make: their arcs, what these cost together, and the prices. None
-/// where the arcs are no choice, or cost more together than 64 bits hold.
+/// The claim of least cost of holders and prices: the holders' arcs, their total cost, and the prices. None where the
+/// arcs are no choice, or where their total cost has more than 64 bits.
 fn claimed(
     alloc: Global,
     problem: &ArcList,
@@ -83,8 +83,8 @@ fn claimed(
     }))
 }
 
-/// The answer of a last phase that has sold an object to each person: its holders' arcs, what they cost together, and
-/// its prices, where the checker lets them pass, or else the guard `Check`. Takes O(arcs + persons) time and O(persons)
+/// The answer of a last phase that has sold an object to each person: its holders' arcs, their total cost, and its
+/// prices. Where these don't pass the checker, it is the guard `Check`. Takes O(arcs + persons) time and O(persons)
 /// memory.
 ///
 /// # Errors
@@ -102,7 +102,7 @@ pub fn optimal(alloc: Global, problem: &ArcList, gathered: Gathered) -> Result<A
     }
 }
 
-/// The answer of [`optimal`] where it is proved that the checker lets the claim pass, so that no time is spent on it.
+/// The answer of [`optimal`] where it is proved that the claim passes the checker, so that no time is spent on a check.
 /// Takes O(persons + objects) time, and O(persons) memory.
 ///
 /// # Errors
@@ -126,9 +126,9 @@ pub fn proved_optimal(
     Ok(Answer::Optimal(cert))
 }
 
-/// What a bracket claims: these picks, by the arcs at these places, what they cost together, and the bound that the
-/// prices give. None where that has more than 64 bits, as it may where there are more objects than persons, and too
-/// many of them have a price.
+/// The claim of a bracket: these picks, by the arcs at these places, their total cost, and the dual bound of the
+/// prices. None where the bound has more than 64 bits, as it may where there are more objects than persons and too many
+/// of them have a price.
 fn bracket_parts(
     alloc: Global,
     problem: &ArcList,
@@ -161,10 +161,10 @@ fn bracket_parts(
     }))
 }
 
-/// The answer of a phase that a limit has stopped: an assignment that the search completes from the holders' arcs, and
-/// the bound on the cost of all that the prices give, where the checker lets it pass; or that there is no assignment.
-/// The guard `Check` where a holder's arc isn't one of his to his object, or somebody holds two, or the bound has more
-/// than 64 bits.
+/// The answer of a phase that a limit has stopped. It is a bracket where that passes the checker: an assignment that
+/// the search completes from the holders' arcs, and the dual bound of the prices. Or it says that there is no
+/// assignment. It is the guard `Check` where a holder's arc isn't one of the holder's to that object, or a person holds
+/// two, or the bound has more than 64 bits.
 ///
 /// `rows` are those of the problem; `gathered.prices` are in scaled costs, from 0 to 2^61, and both lists are indexed
 /// by object.
@@ -207,8 +207,8 @@ pub fn bracket(
     }
 }
 
-/// The bracket of holders of whom each person is one, and whose arcs are an assignment: nothing is completed, so no
-/// rows are wanted. That the checker lets it pass is proved, so no time is spent on it.
+/// The bracket of holders, where each person is one and their arcs are an assignment: nothing is completed, so no rows
+/// are needed. That it passes the checker is proved, so no time is spent on a check.
 ///
 /// `gathered.prices` are in scaled costs, from 0 to 2^61, and both lists are indexed by object. Takes one pass over the
 /// arcs, for the bound, beside O(persons + objects), and O(persons) memory.
@@ -242,8 +242,7 @@ pub fn proved_bracket(
     Ok(Answer::Bracket(cert))
 }
 
-/// The answer where persons were found who together know fewer objects than they number. Takes O(arcs + persons) time
-/// and O(persons) memory.
+/// The answer where a Hall violator was found. Takes O(arcs + persons) time and O(persons) memory.
 ///
 /// # Errors
 ///
@@ -257,7 +256,7 @@ pub fn infeasible(
     requires { IsHallSetOf problem.now persons objects }
     ensures { IfOk result (IsInfeasibleAnswer problem.now) }
 {
-    // Read here, so that the proof knows what every problem keeps.
+    // Read here, so that the proof knows the invariant of the problem.
     let _ = problem.arcs();
     let parts = CertParts::Infeasible { persons, objects };
     match certified(alloc, problem, parts)? {

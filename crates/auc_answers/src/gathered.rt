@@ -1,8 +1,8 @@
-//! What a phase leaves.
+//! The result of a phase.
 
 use auc_letters::Held;
 
-/// Who holds each object, and its price in scaled costs, both indexed by object.
+/// The holder of each object, and its price in scaled costs, both indexed by object.
 #[derive(Debug, Drop)]
 pub struct Gathered {
     pub holders: Vec<Option<Held>>,

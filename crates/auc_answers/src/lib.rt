@@ -1,7 +1,7 @@
-//! What every driver of the auction shares, by messages or not: what comes before its first phase, and how a run ends.
+//! What all drivers of the auction share, by messages or not: what comes before the first phase, and how a run ends.
 //!
-//! [`prepare`] lays out the rows and tells where there is no assignment; [`finish`] makes the answer of what the last
-//! phase has left, a certificate in which the checker finds no fault. What happens in between is the driver's.
+//! [`prepare`] builds the rows and finds where there is no assignment. [`finish`] makes the answer from the result of
+//! the last phase, a certificate in which the checker finds no fault. What happens in between is the driver's.
 #![tactic(auto)]
 
 mod answer;

@@ -1,4 +1,4 @@
-//! The picks that arcs name: those of holders, and those of a full matching.
+//! Picks by arcs: those of holders, and those of a full matching.
 
 ghost use Rattle.std.specs.Prelude.{◌≡◌, ◌<◌, List, length, map, Contains, All, Some, None, IfOk, IfSome, IfNone};
 ghost use Rattle.auc_graph.specs.declared.arc.Arc.{Arc};
@@ -28,8 +28,8 @@ fn all_of(alloc: Global, found: &[Option<Pick>]) -> Result<Option<Vec<Pick>>, Al
     Ok(Some(picks))
 }
 
-/// The pick of each person by the arc with which he holds an object. None where a holder's arc isn't one of his,
-/// somebody holds two objects, or a person holds none.
+/// The pick of each person by the arc with which the person holds an object. None where a holder's arc isn't one of the
+/// holder's, a person holds two objects, or a person holds none.
 pub(crate) fn picks_of_holders(
     alloc: Global,
     problem: &ArcList,
@@ -66,7 +66,7 @@ pub(crate) fn picks_of_holders(
     all_of(alloc, found.as_slice())
 }
 
-/// Where the arcs of holders stand in the problem's list, indexed by person; 0 of whoever holds nothing.
+/// The places of the holders' arcs in the problem's list, indexed by person; 0 for a person who holds nothing.
 pub(crate) fn places_of_holders(
     alloc: Global,
     persons: u32,

@@ -12,7 +12,7 @@ use auc_hall::Partial;
 use auc_letters::Held;
 use std::alloc::{AllocError, Global};
 
-/// Whether the holder has the object by an arc of his to it.
+/// Whether the holder has the object by one of the holder's arcs to it.
 fn holds_rightly(problem: &ArcList, object: u32, held: Held) -> bool
     ensures right { IsTrue result → (a : Arc) × HoldsAt problem.now object held a }
     ensures wrong { result ≡ false → (a : Arc) → HoldsAt problem.now object held a → ⊥ }
@@ -27,8 +27,8 @@ fn holds_rightly(problem: &ArcList, object: u32, held: Held) -> bool
     arc.person == held.person && arc.object == object
 }
 
-/// The partial assignment in which each holder has his object, placed with the objects rising. None where a holder's
-/// arc isn't one of his to that object, or somebody holds two.
+/// The partial assignment in which each holder has the object held, placed in rising order of objects. None where a
+/// holder's arc isn't one of the holder's to that object, or a person holds two.
 pub(crate) fn place_holders(
     alloc: Global,
     problem: &ArcList,

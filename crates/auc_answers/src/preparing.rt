@@ -18,11 +18,11 @@ pub enum Prepared {
     Answered(Answer),
 }
 
-/// Lays out the rows of a problem, and searches an assignment of any cost. Takes the time of the search, and 12 bytes
+/// Builds the rows of a problem, and searches for an assignment of any cost. Takes the time of the search, and 12 bytes
 /// of memory an arc.
 ///
 /// A quick search, [`auc_hall::has_full_matching`], comes first. Only where it finds none, [`auc_hall::complete`] is
-/// asked, since it alone can tell that there is none, and its Hall set is the answer then.
+/// called, since it alone can find that there is none. Its Hall set is the answer then.
 ///
 /// # Errors
 ///

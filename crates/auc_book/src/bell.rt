@@ -1,4 +1,4 @@
-//! What wakes those who wait at a box.
+//! The bell of a box wakes the threads that wait at it.
 
 ghost use Rattle.std.specs.Prelude.{◌≡◌, ◌≤◌, IfOk, vec_len, vec_capacity};
 
@@ -7,14 +7,15 @@ use std::hint::spin_loop;
 use std::sync::Condvar;
 use std::thread::yield_now;
 
-// How often a thread that waits looks before it lets others run, and how often it lets them run before it sleeps: to
-// sleep and to be woken costs some ten microseconds, and a letter that answers one's own mostly comes sooner.
+// How often a waiting thread looks before it lets others run, and how often it lets them run before it sleeps. To sleep
+// and to be woken costs some ten microseconds, and an answering letter mostly comes sooner.
 const LOOKS: u32 = 100;
 
 const YIELDS: u32 = 200;
 
-// The bell of a box. It counts its rings, and says nothing of the box: who hears it looks under the lock. It has cache
-// lines of its own, so that those who look at one bell don't slow who rings another.
+// The bell of a box. It counts its rings, and says nothing of the box: a thread that hears it looks at the box under
+// the lock. It has cache lines of its own, so that threads that look at one bell don't slow down one that rings
+// another.
 #[derive(Drop)]
 pub(crate) struct Bell {
     pub(crate) changed: Condvar,
@@ -29,17 +30,17 @@ impl Bell {
         }
     }
 
-    // How often it was rung, wrapping.
+    // The number of its rings, wrapping.
     pub(crate) fn rung(&self) -> u64 {
         self.changed.notifications()
     }
 
-    // Rings: wakes all who wait at the box. No system call is made where nobody sleeps.
+    // Rings: wakes all threads that wait at the box. No system call is made where none sleeps.
     pub(crate) fn ring(&self) {
         self.changed.notify_all();
     }
 
-    // Looks for a while whether it is rung once more.
+    // Looks for a while whether it has been rung once more.
     pub(crate) fn look(&self, heard: u64) {
         for _ in 0..LOOKS {
             if self.rung() != heard {

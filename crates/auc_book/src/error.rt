@@ -8,7 +8,7 @@ use thiserror::Error;
 #[error("no place is left in the trail")]
 pub struct TrailFull;
 
-/// Why a post was refused. Where several causes hold, the first of them in this order is answered.
+/// Why a post was refused. Where there are several causes, the first of them in this order is returned.
 #[derive(Clone, Copy, Debug, PartialEq, Eq, Error)]
 pub enum CallRefused {
     /// No more calls can be noted, as for `TrailFull`. The call was not made.
@@ -19,7 +19,7 @@ pub enum CallRefused {
     #[error("the box is closed")]
     Closed,
 
-    /// As many letters as the mail's `most` were posted in this lane, those taken since among them.
+    /// The mail's `most` letters were posted in this lane, those taken since among them.
     #[error("the lane had all its posts")]
     Spent,
 
@@ -28,7 +28,7 @@ pub enum CallRefused {
     Full,
 }
 
-/// Why a mail and its seats do not settle. They are looked at in the order `NoTrail`, `Missing`, `Differs`.
+/// Why a mail and its seats do not settle. They are tested in the order `NoTrail`, `Missing`, `Differs`.
 #[derive(Clone, Copy, Debug, PartialEq, Eq, Error)]
 pub enum SettleError {
     /// A worker's seat is not among them.

@@ -15,16 +15,15 @@ use auc_mail::Taken;
 use std::marker::Model;
 use std::sync::MutexGuard;
 
-/// A shared mail while a worker has its lock: he makes calls one after another, each a step with a line of its own, and
-/// nobody else calls in between.
+/// A shared mail while a worker has its lock. The worker makes calls one after another, each a step with a line of its
+/// own, and nobody else calls in between.
 ///
-/// It can't be dropped: [`HeldMail::release`] gives the lock up. Contracts see it as the `State` that lies under the
-/// lock.
+/// It can't be dropped: [`HeldMail::release`] releases the lock. Contracts see it as the `State` under the lock.
 pub struct HeldMail<'b, T: Copy, N: MailBrand> {
     locked: MutexGuard<'b, LockedMail<T, N>>,
     bells: &'b [Bell],
-    // The boxes from `first` to before `end` are rung when the lock is given up: those that something was posted to,
-    // and what lies between.
+    // The boxes from `first` to before `end` are rung when the lock is released: those that something was posted to,
+    // and the boxes between them.
     first: usize,
     end: usize,
 }
@@ -105,8 +104,9 @@ impl<'b, T: Copy, N: MailBrand> HeldMail<'b, T, N> {
         answer
     }
 
-    /// Gives the lock up, and then wakes those for whom there is something: who waits at a box that was posted to or
-    /// closed; and all who wait at this mail, where no more calls can be noted, since that ends each wait.
+    /// Releases the lock, and then wakes the threads that can go on. These are the threads that wait at a box that was
+    /// posted to or closed. Where no more calls can be noted, they are all that wait at this mail, since that ends each
+    /// wait.
     pub fn release(self) {
         let HeldMail {
             locked,

@@ -1,9 +1,11 @@
-//! A mail that threads share, with a trail of its calls: where all seats settle, the trail is a run of the mail, and
-//! each worker's calls stand in it, in order, with the answers that he got.
+//! A mail that threads share, with a trail of its calls.
 //!
-//! A `MailState` is a mail with its trail, for one thread. A `SharedMail` has one under a lock; each worker calls it by
-//! his own `Seat`, which notes his calls and their answers. `settle` ends the mail, and compares the seats with the
-//! trail. A call may wait for the lock, and nothing is said of whether it ever gets it.
+//! A `MailState` is a mail with its trail, for one thread. A `SharedMail` has one under a lock. Each worker calls it by
+//! a `Seat`, which notes the worker's calls and their answers. `settle` ends the mail, and compares the seats with the
+//! trail.
+//!
+//! Proved: where all seats settle, the trail is a run of the mail, and has each worker's calls in order, with the
+//! answers that the worker got. A call may wait for the lock, and nothing is said of whether it ever gets it.
 #![tactic(auto)]
 
 mod bell;

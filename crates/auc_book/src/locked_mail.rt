@@ -1,4 +1,4 @@
-//! What lies under the lock of a shared mail, and the calls that are made there.
+//! The state under the lock of a shared mail, and the calls that are made there.
 
 ghost use Rattle.std.specs.Prelude.{◌≡◌, ◌<◌, ◌↔◌, false, true, All, IsTrue};
 ghost use Rattle.auc_mail.specs.Mail.{empty_mail};
@@ -19,7 +19,7 @@ use auc_mail::{Call, PostRefused, Reply, Taken};
 use std::marker::Model;
 use std::sync::ledger::Book;
 
-// What lies under the lock of a shared mail: the state, and the total of the seats' shares.
+// The state under the lock of a shared mail, and the total of the seats' shares.
 #[derive(Drop)]
 pub struct LockedMail<T: Copy, N: MailBrand> {
     state: MailState<T>,
@@ -38,7 +38,7 @@ impl<T: Copy, N: MailBrand> Model for LockedMail<T, N> {
 }
 
 impl<T: Copy, N: MailBrand> LockedMail<T, N> {
-    // The locked mail of a new state, to which no share has counted a call.
+    // The locked mail of a new state, with no call counted in any share.
     pub(crate) fn new(state: MailState<T>, total: Book<N>) -> LockedMail<T, N>
         requires numbers { IsNumbered N.boxes N.workers N.nodes N.most N.room state }
         requires counted { total.total ≡ state.count }
@@ -55,8 +55,8 @@ impl<T: Copy, N: MailBrand> LockedMail<T, N> {
         &self.state
     }
 
-    // Makes the call of the seat's worker, and notes it here and there. None where no more can be noted: then the seat
-    // counts that it was turned away.
+    // Makes the call of the seat's worker, and notes it in the trail and in the seat. None where no more can be noted:
+    // then the seat counts that it was turned away.
     #[tactic(auto, using(crate::proofs::LockedMailLaws::place_left))]
     fn note(&mut self, seat: &mut Seat<T, N>, call: Call<T>) -> Option<Reply<T>>
         requires fits { FitsIn N.workers N.boxes call }
@@ -151,7 +151,7 @@ impl<T: Copy, N: MailBrand> LockedMail<T, N> {
         !pool.has_letter(at)
     }
 
-    // How many lines the trail has room for.
+    // The number of lines that the trail has room for.
     pub(crate) fn room(&self) -> u32
         ensures { result ≡ N.room }
     {

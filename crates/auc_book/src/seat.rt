@@ -11,11 +11,11 @@ use std::alloc::{AllocError, Global};
 use std::marker::Model;
 use std::sync::ledger::{Book, Share};
 
-/// A worker's seat at a shared mail: it counts his calls, and notes them where the mail keeps a trail. Calls that are
-/// turned away are counted apart.
+/// A worker's seat at a shared mail: it counts the worker's calls, and notes them where the mail keeps a trail. Calls
+/// that are turned away are counted separately.
 ///
-/// Its count is his share of the ledger of all calls, whose total lies under the mail's lock. So it rises only where a
-/// call was made there.
+/// Its count is the worker's share of the ledger of all calls, whose total is under the mail's lock. So it rises only
+/// where a call was made there.
 ///
 /// Contracts see it as the `Account` of `specs/Seat.antt`.
 #[derive(Drop)]
@@ -42,7 +42,7 @@ impl<T: Copy, N: MailBrand> Model for Seat<T, N> {
 }
 
 impl<T: Copy, N: MailBrand> Seat<T, N> {
-    // The seat of a worker who made no call, with places for his lines.
+    // The seat of a worker who made no call, with places for the worker's lines.
     pub(crate) fn new(
         alloc: Global,
         worker: u32,
@@ -64,7 +64,7 @@ impl<T: Copy, N: MailBrand> Seat<T, N> {
         })
     }
 
-    /// Whose seat it is, from 0. Takes O(1) time.
+    /// The worker of the seat, from 0. Takes O(1) time.
     pub fn worker(&self) -> u32
         ensures number { result ≡ self.now.worker }
         ensures in_range { result < N.workers }
@@ -72,29 +72,29 @@ impl<T: Copy, N: MailBrand> Seat<T, N> {
         self.number
     }
 
-    /// How many calls he made. Takes O(1) time.
+    /// The number of calls that the worker made. Takes O(1) time.
     pub fn count(&self) -> u64
         ensures { result ≡ self.now.count }
     {
         self.calls
     }
 
-    /// How many of his calls were turned away, since no more could be noted. It stops at its last value. Takes O(1)
-    /// time.
+    /// The number of the worker's calls that were turned away, since no more could be noted. It stops at its last
+    /// value. Takes O(1) time.
     pub fn turned_away(&self) -> u64
         ensures { result ≡ self.now.turned_away }
     {
         self.turned
     }
 
-    // How many lines the trail has room for.
+    // The number of lines that the trail has room for.
     pub(crate) fn room(&self) -> u32
         ensures { result ≡ N.room }
     {
         self.places
     }
 
-    /// The lines of his calls, the first one first; none where the mail keeps no trail. Takes O(1) time.
+    /// The lines of the worker's calls, the first one first; none where the mail keeps no trail. Takes O(1) time.
     pub fn lines(&self) -> &[TrailLine<T>]
         ensures lines { result.now ≡ self.now.lines }
         ensures counted { 0 < N.room → self.now.count ≡ length self.now.lines }

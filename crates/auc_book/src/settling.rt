@@ -12,7 +12,7 @@ use crate::locked_mail::LockedMail;
 use crate::seat::Seat;
 use crate::trail::Trail;
 
-// Where a seat of the worker stands.
+// The place of a seat of the worker in the list.
 fn place_of<T: Copy, N: MailBrand>(seats: &[Seat<T, N>], worker: u32) -> Option<usize>
     ensures { MatchOption result (IsUnseated seats.now worker) (λ i. IsPlaceOf worker seats.now i) }
 {
@@ -35,8 +35,8 @@ fn take_seat<T: Copy, N: MailBrand>(seats: &mut Vec<Seat<T, N>>, worker: u32) ->
     }
 }
 
-// Whether the seat tells the truth of the trail: its lines are those of its worker, and no call was turned away while a
-// place was left.
+// Whether the seat agrees with the trail: its lines are those of its worker, and no call was turned away while a place
+// was left.
 fn is_true_of<T: Copy + Eq, N: MailBrand>(seat: &Seat<T, N>, lines: &[TrailLine<T>]) -> bool
     requires { EqualIsSame T.eq }
     ensures { IsTrue result ↔ IsTrueOf N.room lines.now seat.now }
@@ -60,7 +60,7 @@ pub(crate) fn settle<T: Copy + Eq, N: MailBrand>(
     ensures trail { IfOk result (λ trail. trail ≡ locked.trail) }
     ensures unsettled { IfErr result (IsUnsettled N.workers N.room seats.items) }
 
-    // `SharedMail::settle` can't say this, since what lies under a lock has no name in a contract
+    // `SharedMail::settle` can't say this, since the state under a lock has no name in a contract
     ensures differs { IfErr result (λ e. e ≡ SettleError.Differs → Differ N.workers N.room seats.items locked.trail) }
 {
     if locked.room() == 0 {

@@ -66,8 +66,8 @@ impl<T: Copy, N: MailBrand> SharedMail<T, N> {
     /// The empty mail with nothing noted, and a seat for each worker, in order.
     ///
     /// The numbers are those of `MailState::make`, and each seat has places for `room` lines of its own. `ledger` is an
-    /// unopened one, with a part for each worker. The conditions tie the name in the type to these arguments: who calls
-    /// code that is generic over the name picks it so.
+    /// unopened one, with a part for each worker. The conditions tie the name in the type to these arguments: a caller
+    /// of code that is generic over the name picks it so.
     ///
     /// Errors: those of `MailState::make`, in the same order.
     ///
@@ -107,19 +107,19 @@ impl<T: Copy, N: MailBrand> SharedMail<T, N> {
         Ok((mail, seats))
     }
 
-    /// Takes the lock, for any number of calls. They are made when [`HeldMail::release`] is called, which gives the
-    /// lock up; till then all others wait. This is no call.
+    /// Takes the lock, for any number of calls, until [`HeldMail::release`] releases it; until then all others wait.
+    /// This is no call.
     pub fn hold<'b, R: Wait>(&'b self, rt: &R) -> HeldMail<'b, T, N>
         ensures { IsNumbered N.boxes N.workers N.nodes N.most N.room result }
     {
         let locked = self.locked.lock(rt);
-        // Read here, so that the proof knows what lies under the lock.
+        // Read here, so that the proof knows the invariant of the state under the lock.
         let _ = locked.state();
         HeldMail::new(locked, self.bells.as_slice())
     }
 
-    /// Takes the lock once a take from the box would give a letter, or say that none will come, or be refused. To wait
-    /// is no call.
+    /// Takes the lock once a take from the box would give a letter, say that none will come, or be refused. To wait is
+    /// no call.
     ///
     /// It looks for a while before it sleeps.
     pub fn hold_for<'b, R: Wait>(&'b self, rt: &R, at: u32) -> HeldMail<'b, T, N>
@@ -135,8 +135,9 @@ impl<T: Copy, N: MailBrand> SharedMail<T, N> {
         HeldMail::new(locked, self.bells.as_slice())
     }
 
-    /// Posts `item` to the box `to` in the name of the seat's worker, and answers the letter's number in its lane, from
-    /// 1. Wakes who waits at this box, and all who wait at this mail where the trail has no place left for more calls.
+    /// Posts `item` to the box `to` in the name of the seat's worker, and returns the letter's number (from 1) in its
+    /// lane. Wakes the threads that wait at this box, and all that wait at this mail where the trail has no place left
+    /// for more calls.
     ///
     /// Refused as by `MailState::post`; after `TrailFull` the seat counts one call more that was turned away. Takes
     /// O(1) time under the lock, and no memory.
@@ -159,8 +160,8 @@ impl<T: Copy, N: MailBrand> SharedMail<T, N> {
 
     /// Takes the first waiting letter of one of the box's lanes; where none has one, says whether one may still come.
     ///
-    /// Refused where no more calls can be noted: the seat counts that, and all who wait at this mail are woken. Takes
-    /// the time of `MailPool::take` under the lock, and no memory.
+    /// Refused where no more calls can be noted: the seat counts that, and all threads that wait at this mail are
+    /// woken. Takes the time of `MailPool::take` under the lock, and no memory.
     pub fn try_take<R: Wait>(
         &self,
         rt: &R,
@@ -179,8 +180,8 @@ impl<T: Copy, N: MailBrand> SharedMail<T, N> {
     /// Takes the first waiting letter of one of the box's lanes, and waits until there is one or the box is closed. To
     /// wait is no call.
     ///
-    /// Refused where no more calls can be noted, which it looks for each time it has the lock: the seat counts that,
-    /// and all who wait at this mail are woken. It looks for a while before it sleeps. Takes the time of
+    /// Refused where no more calls can be noted, which is tested each time it has the lock. Then the seat counts that,
+    /// and all threads that wait at this mail are woken. It looks for a while before it sleeps. Takes the time of
     /// `MailPool::take` each time it has the lock, and no memory.
     pub fn take<R: Wait>(
         &self,
@@ -198,10 +199,11 @@ impl<T: Copy, N: MailBrand> SharedMail<T, N> {
         answer
     }
 
-    /// Closes the box, and answers whether it was still open. Its waiting letters stay. Wakes who waits at it.
+    /// Closes the box, and returns whether it was still open. Its waiting letters stay. Wakes the threads that wait at
+    /// it.
     ///
-    /// Refused where no more calls can be noted: the seat counts that, and all who wait at this mail are woken. Takes
-    /// O(1) time under the lock, and no memory.
+    /// Refused where no more calls can be noted: the seat counts that, and all threads that wait at this mail are
+    /// woken. Takes O(1) time under the lock, and no memory.
     pub fn close<R: Wait>(&self, rt: &R, seat: &mut Seat<T, N>, at: u32) -> Result<bool, TrailFull>
         requires { at < N.boxes }
         ensures { SeatCalls N.room seat.old (Call.Close at) (close_reply result) seat.new }
@@ -212,7 +214,7 @@ impl<T: Copy, N: MailBrand> SharedMail<T, N> {
         answer
     }
 
-    /// What `f` gives of the state as it stands, while nobody else calls. This is no call, and is not noted. `f` may be
+    /// The result of `f` on the present state, while nobody else calls. This is no call, and is not noted. `f` may be
     /// called on every state.
     pub fn look<R: Wait, A, F: FnOnce(&MailState<T>) -> A>(&self, rt: &R, f: F) -> A
         requires { F.IsAlwaysCallable f }
@@ -222,14 +224,16 @@ impl<T: Copy, N: MailBrand> SharedMail<T, N> {
         f(locked.state())
     }
 
-    /// Ends the mail: the trail, where each worker's seat is among these and its lines are the trail's lines of that
-    /// worker, in order and with the same answers, and it counts calls that were turned away only where the trail has
-    /// no place left.
+    /// Ends the mail and returns the trail, where these hold:
     ///
-    /// Errors are looked at in this order: `NoTrail` where the mail was made with no room for one; `Missing` where a
+    /// - Each worker's seat is among these, and its lines are the trail's lines of that worker, in order and with the
+    ///   same answers.
+    /// - A seat counts calls that were turned away only where the trail has no place left.
+    ///
+    /// Errors are tested in this order: `NoTrail` where the mail was made with no room for one; `Missing` where a
     /// worker's seat isn't among these; `Differs`. The mail and the seats are used up in every case.
     ///
-    /// Takes O(workers * (lines + seats)) time and no memory. The condition on `==` of items holds of numbers, and of
+    /// Takes O(workers * (lines + seats)) time and no memory. The condition on `==` of items holds for numbers, and for
     /// letters of the solver.
     pub fn settle(self, seats: Vec<Seat<T, N>>) -> Result<Trail<T>, SettleError>
     where

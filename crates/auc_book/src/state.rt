@@ -92,21 +92,21 @@ impl<T: Copy> MailState<T> {
         }
     }
 
-    /// The mail as it stands. Takes O(1) time.
+    /// The present mail. Takes O(1) time.
     pub fn pool(&self) -> &MailPool<T>
         ensures { result.now ≡ self.now.mail }
     {
         &self.pool
     }
 
-    /// How many calls were made. Takes O(1) time.
+    /// The number of calls that were made. Takes O(1) time.
     pub fn count(&self) -> u64
         ensures { result ≡ self.now.count }
     {
         self.calls
     }
 
-    // How many lines the trail has room for.
+    // The number of lines that the trail has room for.
     pub(crate) fn room(&self) -> u32
         ensures { result ≡ self.now.room }
     {
@@ -142,7 +142,7 @@ impl<T: Copy> MailState<T> {
         Some(reply)
     }
 
-    /// Posts `item` to the box `to` in the worker's name, and answers the letter's number in its lane, from 1.
+    /// Posts `item` to the box `to` in the worker's name, and returns the letter's number in its lane, from 1.
     ///
     /// Refused, in this order: `TrailFull` where no more calls can be noted, with nothing changed and nothing noted;
     /// `Closed`, `Spent` and `Full` as by `MailPool::post`, which are noted. Takes O(1) time.
@@ -182,7 +182,7 @@ impl<T: Copy> MailState<T> {
         }
     }
 
-    /// Closes the box, and answers whether it was still open. Its waiting letters stay. Takes O(1) time.
+    /// Closes the box, and returns whether it was still open. Its waiting letters stay. Takes O(1) time.
     ///
     /// Refused where no more calls can be noted, with nothing changed and nothing noted.
     pub fn close(&mut self, worker: u32, at: u32) -> Result<bool, TrailFull>
@@ -196,8 +196,8 @@ impl<T: Copy> MailState<T> {
         }
     }
 
-    /// What every state keeps: where there is a trail, it is a run from the empty mail to this one. This is a law, and
-    /// does nothing: proofs above cite it.
+    /// The invariant of every state: where there is a trail, it is a run from the empty mail to this one. This is a
+    /// law, and does nothing: proofs above cite it.
     pub fn every_state_is_noted(&self)
         ensures { IsNoted self.now }
     {

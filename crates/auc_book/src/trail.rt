@@ -5,8 +5,8 @@ ghost use Rattle.std.specs.Prelude.{◌≡◌};
 use crate::line::TrailLine;
 use std::marker::Model;
 
-/// The trail of a mail that has settled: all its calls in their order, with who made them and the answers. Contracts
-/// see it as the list of its lines.
+/// The trail of a mail that has settled: all its calls in their order, with their workers and answers. Contracts see it
+/// as the list of its lines.
 #[derive(Drop)]
 pub struct Trail<T: Copy> {
     lines: Vec<TrailLine<T>>,

@@ -1,4 +1,4 @@
-//! The lines of a certificate, read one by one: the first one, which tells the version, and those of picks, prices and
+//! The lines of a certificate, read one by one: the first one, which has the version, and those of picks, prices and
 //! names.
 
 ghost use Rattle.std.specs.Prelude.{◌≡◌, ◌<◌, ◌≤◌, IfSome};
@@ -8,7 +8,7 @@ use crate::fields::{field_of, index_of};
 use auc_claim::{Pick, Version};
 use auc_graph::{MOST_COST, MOST_PRICE};
 
-/// The pick on the line of a person at the front, of one of `most` objects, and what stands after the line.
+/// The pick on the line of a person at the front, of one of `most` objects, and the text after the line.
 #[tactic(auto, unfolding(crate::specs::Fields::pick_line_at))]
 pub(crate) fn pick_of(bytes: &[u8], most: u32, person: u32) -> Option<(Pick, &[u8])>
     requires most { most ≤ 20000 }
@@ -26,7 +26,7 @@ pub(crate) fn pick_of(bytes: &[u8], most: u32, person: u32) -> Option<(Pick, &[u
     Some((pick, rest))
 }
 
-/// The price on the line of an object at the front, and what stands after the line.
+/// The price on the line of an object at the front, and the text after the line.
 #[tactic(auto, unfolding(crate::specs::Fields::price_line_at))]
 pub(crate) fn price_of(bytes: &[u8], object: u32) -> Option<(i64, &[u8])>
     requires { object < 20000 }
@@ -37,7 +37,7 @@ pub(crate) fn price_of(bytes: &[u8], object: u32) -> Option<(i64, &[u8])>
     field_of(rest, b"", 0, MOST_PRICE, b'\n')
 }
 
-/// The number, from `least` to below `end`, on the line at the front, and what stands after the line.
+/// The number, from `least` to below `end`, on the line at the front, and the text after the line.
 #[tactic(auto, unfolding(crate::specs::Fields::number_at))]
 pub(crate) fn number_of<'a>(
     bytes: &'a [u8],
@@ -53,7 +53,7 @@ pub(crate) fn number_of<'a>(
     Some((index_of(number), rest))
 }
 
-/// What stands after this first line.
+/// The text after this first line.
 #[tactic(auto, unfolding(crate::specs::Fields::after))]
 fn after_head<'a>(bytes: &'a [u8], head: &[u8]) -> Option<&'a [u8]>
     ensures { viewed (λ x. x.now) result ≡ after head.now bytes.now }
@@ -61,7 +61,7 @@ fn after_head<'a>(bytes: &'a [u8], head: &[u8]) -> Option<&'a [u8]>
     bytes.strip_prefix(head)
 }
 
-/// The version that the first line tells, and what stands after the line.
+/// The version on the first line, and the text after the line.
 #[tactic(auto, unfolding(crate::specs::Fields::head_at))]
 pub(crate) fn head_of(bytes: &[u8]) -> Option<(Version, &[u8])>
     ensures { viewed (λ x. (x.0, x.1.now)) result ≡ head_at bytes.now }

@@ -14,7 +14,7 @@ use crate::text_error::CertTextError;
 use auc_claim::{Pick, Picks, Prices, Version};
 use std::alloc::Global;
 
-/// The picks of so many persons, each on his line and of one of `most` objects, and what stands after them.
+/// The picks of the persons, each on its own line and of one of `most` objects, and the text after them.
 fn picks_of(
     alloc: Global,
     persons: u32,
@@ -44,7 +44,7 @@ fn picks_of(
     Ok((picks, rest))
 }
 
-/// The prices of so many objects, each on its line, the first on line `first`, and what stands after them.
+/// The prices of the objects, each on its own line, the first on line `first`, and the text after them.
 fn prices_of(
     alloc: Global,
     objects: u32,
@@ -74,8 +74,8 @@ fn prices_of(
     Ok((prices, rest))
 }
 
-/// The picks of so many persons and the prices of so many objects, after the first two lines of a certificate that ends
-/// with them.
+/// The picks of the persons and the prices of the objects, after the first two lines of a certificate that ends with
+/// them.
 pub(crate) fn choice_of(
     alloc: Global,
     persons: u32,

@@ -42,7 +42,7 @@ fn spelled_in(word: &[u8], least: i64, most: i64) -> Option<i64>
     }
 }
 
-/// What stands before the first such byte, and what stands after it.
+/// The text before the first byte `stop`, and the text after it.
 pub(crate) fn word_before(bytes: &[u8], stop: u8) -> Option<(&[u8], &[u8])>
     ensures { viewed (λ x. (x.0.now, x.1.now)) result ≡ word_at stop bytes.now }
 {
@@ -54,7 +54,7 @@ pub(crate) fn word_before(bytes: &[u8], stop: u8) -> Option<(&[u8], &[u8])>
     None
 }
 
-/// The number from least to most after the front, which the byte ends, and what stands after it.
+/// The number from least to most after the front, which the byte ends, and the text after it.
 #[tactic(auto, unfolding(crate::specs::Fields::field_at, crate::specs::Fields::after))]
 pub(crate) fn field_of<'a>(
     bytes: &'a [u8],

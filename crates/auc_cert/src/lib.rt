@@ -1,6 +1,9 @@
-//! The text of certificates: each has one spelling, which [`read_cert`] reads and [`write_cert`] writes.
+//! The text of certificates: each has one spelling, which [`read_cert`] reads and [`write_cert`] writes. The reader
+//! takes O(length) time.
 //!
-//! What a certificate claims, and whether it holds, is for [`auc_claim`], whose names are handed on here.
+//! Proved: [`read_cert`] reads exactly the spellings of certificates, each as its certificate, and a whole
+//! [`write_cert`] writes just the spelling. What a certificate claims, and whether it is true, is for [`auc_claim`],
+//! whose names are re-exported here.
 #![tactic(auto)]
 
 mod cert_lines;

@@ -1,5 +1,4 @@
-//! A line of text, put together from its end to its front: the digits of a number come last one first, and nothing that
-//! stands moves.
+//! A line of text, built from its end to its front: the digits of a number come last one first, and nothing is moved.
 
 ghost use Rattle.std.specs.Prelude.{◌≡◌, ◌+◌, ◌<◌, ◌≤◌, ◌∷◌, ◌++◌, length, codes};
 ghost use Rattle.std.specs.Fmt.{decimal, signed_decimal};
@@ -7,7 +6,7 @@ ghost use Rattle.std.specs.Fmt.{decimal, signed_decimal};
 use itoa::write_digits;
 use std::marker::Model;
 
-// The most bytes of a line: three numbers of up to 20 bytes, and words.
+// The greatest length of a line in bytes: three numbers of up to 20 bytes, and words.
 const MOST_BYTES: usize = 80;
 
 /// A line that grows at its front. Contracts see its bytes.

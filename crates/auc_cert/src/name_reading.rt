@@ -14,8 +14,7 @@ use auc_claim::{MOST_OBJECTS_IN_FIRST, Version};
 use auc_graph::{Indices, MOST_PERSONS};
 use std::alloc::Global;
 
-/// The least number that may stand after `done` of `count` numbers, where it is `least`, and of the last one `last`
-/// too.
+/// The least number that may come after `done` of `count` numbers: `least`, and for the last one at least `last`.
 fn least_here(least: u32, last: u32, done: u32, count: u32) -> u32
     requires { done < count }
     ensures least { least ≤ result }
@@ -29,8 +28,8 @@ fn least_here(least: u32, last: u32, done: u32, count: u32) -> u32
     }
 }
 
-/// So many rising numbers below `most`, the last one `last` or above, each on a line with this front, the first on line
-/// `first`, and what stands after them. A number has to leave room for those after it.
+/// `count` rising numbers below `most`, the last one `last` or above, each on a line with this front, the first on line
+/// `first`, and the text after them. A number has to leave room for those after it.
 fn rising_of<'a>(
     alloc: Global,
     front: &[u8],
@@ -74,7 +73,7 @@ fn rising_of<'a>(
     Ok((numbers, rest))
 }
 
-/// The least object, numbered from 0, that may be the last one that is named.
+/// The least object, numbered from 0, that may be the last named one.
 fn least_last(version: Version) -> u32
     ensures { result ≡ least_last version }
 {
@@ -84,7 +83,7 @@ fn least_last(version: Version) -> u32
     }
 }
 
-/// So many persons and so many objects, after the first two lines of a certificate of this version that ends with them.
+/// The named persons and objects, after the first two lines of a certificate of this version that ends with them.
 pub(crate) fn names_of(
     alloc: Global,
     version: Version,

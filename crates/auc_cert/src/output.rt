@@ -1,4 +1,4 @@
-//! Bytes and numbers, written: what every text is written by.
+//! Writes bytes and numbers: all texts are written with it.
 
 ghost use Rattle.std.specs.Prelude.{◌≡◌, ◌<◌, Ok, Err, IfOk, IsErr};
 ghost use Rattle.auc_cert.specs.Writing.{Writes, counted, line_of, spelled};
@@ -28,13 +28,13 @@ pub enum Part<'a> {
     LineEnd,
     /// This number.
     Count(u64),
-    /// The number from 1 on of what is numbered from 0.
+    /// The number, from 1 on, of something that is numbered from 0.
     Place(u64),
     /// This number, with a minus where it is negative.
     Number(i64),
 }
 
-/// How many bytes a write took, or why nothing more is written.
+/// The number of bytes that a write took, or why nothing more is written.
 #[inline]
 fn taken_of(written: io::Result<usize>) -> Result<usize, WriteFault>
     ensures taken { IfOk result (λ n. (written ≡ Ok n) × (0 < n)) }
@@ -48,7 +48,7 @@ fn taken_of(written: io::Result<usize>) -> Result<usize, WriteFault>
     }
 }
 
-/// Writes these bytes, all of them, by as many calls of `write` as that takes. Takes no memory.
+/// Writes all of these bytes, by as many calls of `write` as that takes. Takes no memory.
 ///
 /// # Errors
 ///

@@ -1,4 +1,4 @@
-//! The second line of a certificate, read: it tells the kind of the claim, and how many lines of which shape follow.
+//! The second line of a certificate, read: the kind of the claim, and how many lines of which shape follow.
 
 ghost use Rattle.std.specs.Prelude.{◌≡◌, pos};
 ghost use Rattle.auc_cert.specs.Fields.{viewed, after, objects_at, optimal_at, infeasible_at, bracket_at, second_line_at};
@@ -9,7 +9,7 @@ use crate::words::reason_of_word;
 use auc_claim::{MOST_NAMED, Reason, Version};
 use auc_graph::{MOST_OBJECTS, MOST_PERSONS};
 
-/// What a second line says.
+/// The content of a second line.
 pub(crate) enum SecondLine {
     Optimal {
         persons: u32,
@@ -29,8 +29,8 @@ pub(crate) enum SecondLine {
     },
 }
 
-/// How many objects there are after so many persons, and what stands after that: version 1 has as many, and doesn't
-/// write it.
+/// The number of objects, which comes after the number of persons, and the text after it: version 1 has as many as
+/// persons, and doesn't write it.
 #[tactic(auto, unfolding(crate::specs::Fields::objects_at))]
 fn objects_of(bytes: &[u8], version: Version, persons: u32) -> Option<(u32, &[u8])>
     ensures { viewed (λ x. (x.0, x.1.now)) result ≡ objects_at version persons bytes.now }
@@ -45,7 +45,7 @@ fn objects_of(bytes: &[u8], version: Version, persons: u32) -> Option<(u32, &[u8
     }
 }
 
-/// The second line of an optimal certificate at the front, and what stands after it.
+/// The second line of an optimal certificate at the front, and the text after it.
 #[tactic(auto, unfolding(crate::specs::Fields::optimal_at))]
 fn optimal_of(bytes: &[u8], version: Version) -> Option<(SecondLine, &[u8])>
     ensures { viewed (λ x. (x.0, x.1.now)) result ≡ optimal_at version bytes.now }
@@ -62,7 +62,7 @@ fn optimal_of(bytes: &[u8], version: Version) -> Option<(SecondLine, &[u8])>
     Some((line, rest))
 }
 
-/// How many objects a claim names at least.
+/// The least number of objects that a claim names.
 fn least_named(version: Version) -> i64
     ensures { result ≡ pos (least_named version) }
 {
@@ -72,7 +72,7 @@ fn least_named(version: Version) -> i64
     }
 }
 
-/// The second line of an infeasible certificate at the front, and what stands after it.
+/// The second line of an infeasible certificate at the front, and the text after it.
 #[tactic(auto, unfolding(crate::specs::Fields::infeasible_at))]
 fn infeasible_of(bytes: &[u8], version: Version) -> Option<(SecondLine, &[u8])>
     ensures { viewed (λ x. (x.0, x.1.now)) result ≡ infeasible_at version bytes.now }
@@ -87,7 +87,7 @@ fn infeasible_of(bytes: &[u8], version: Version) -> Option<(SecondLine, &[u8])>
     Some((line, rest))
 }
 
-/// The second line of a bracket at the front, and what stands after it.
+/// The second line of a bracket at the front, and the text after it.
 #[tactic(auto, unfolding(crate::specs::Fields::bracket_at, crate::specs::Fields::after))]
 fn bracket_of(bytes: &[u8], version: Version) -> Option<(SecondLine, &[u8])>
     ensures { viewed (λ x. (x.0, x.1.now)) result ≡ bracket_at version bytes.now }
@@ -110,7 +110,7 @@ fn bracket_of(bytes: &[u8], version: Version) -> Option<(SecondLine, &[u8])>
     Some((line, rest))
 }
 
-/// The second line of a text of this version at the front, of whichever kind, and what stands after it.
+/// The second line of a text of this version at the front, of whichever kind, and the text after it.
 #[tactic(auto, unfolding(crate::specs::Fields::second_line_at))]
 pub(crate) fn second_line_of(bytes: &[u8], version: Version) -> Option<(SecondLine, &[u8])>
     ensures { viewed (λ x. (x.0, x.1.now)) result ≡ second_line_at version bytes.now }

@@ -12,24 +12,24 @@ use crate::version::Version;
 use auc_graph::Indices;
 use std::marker::Model;
 
-/// What a certificate claims.
+/// The claim of a certificate.
 #[derive(Debug, Drop)]
 pub enum CertParts {
-    /// A least-cost assignment: the cost of the whole, a pick for each person, and for each object, of which there may
-    /// be more, a price; the prices show that no assignment costs less.
+    /// A least-cost assignment: its total cost, a pick for each person, and a price for each object, of which there may
+    /// be more. The prices show that no assignment costs less.
     Optimal {
         cost: i64,
         choice: Picks,
         prices: Prices,
     },
-    /// That there is no assignment: persons, and objects, fewer than they, to which all their arcs lead. Both rise, and
-    /// are numbered from 0.
+    /// That there is no assignment: persons, and objects, fewer than they, to which all their arcs lead (a Hall
+    /// violator). Both are in rising order, and numbered from 0.
     Infeasible {
         persons: Indices,
         objects: Indices,
     },
-    /// An assignment of this cost, and that none costs less than the lower bound: which limit ended the run, the bound,
-    /// the cost of the whole, a pick for each person, and for each object a price; the prices show the bound.
+    /// An assignment of this cost, and that none costs less than the lower bound. It names the limit that ended the
+    /// run, the bound, the total cost, a pick for each person, and a price for each object. The prices show the bound.
     Bracket {
         reason: Reason,
         lower: i64,
@@ -39,7 +39,8 @@ pub enum CertParts {
     },
 }
 
-/// A claim whose numbers a certificate's text can spell. Whether it holds of a problem is for [`check`](crate::check).
+/// A claim whose numbers a certificate's text can spell. Whether it is true of a problem is for
+/// [`check`](crate::check).
 #[derive(Debug, Drop)]
 pub struct Cert {
     parts: CertParts,
@@ -81,7 +82,7 @@ fn is_choice(choice: &[Pick], prices: &[i64]) -> bool
         && are_prices(prices)
 }
 
-/// Whether the numbers rise, and are below the end.
+/// Whether the numbers are in rising order, and below the end.
 fn do_rise(numbers: &[u32], end: u32) -> bool
     ensures { IsTrue result ↔ Rises 0 end numbers.now }
 {
@@ -107,11 +108,16 @@ fn are_named(persons: &[u32], objects: &[u32]) -> bool
 impl Cert {
     ghost use Rattle.auc_claim.specs.Spelled.{IsSpelled};
 
-    /// The certificate of these parts, which are handed back where no text spells them: where there are no picks or
-    /// more than 10,000, fewer prices than picks or more than 20,000, an object from 20,000 on (with as many prices as
-    /// picks from 10,000 on), a cost of a pick beyond 10^9 in magnitude, or a price that is not from 0 to 2^61; where
-    /// no person is named or more than 10,000 objects are, where the persons don't rise or are not below 10,000, or the
-    /// objects don't rise or are not below 20,000. Takes O(persons + objects) time and no memory.
+    /// The certificate of these parts. The parts are returned where no text spells them:
+    ///
+    /// - There are no picks or more than 10,000, fewer prices than picks or more than 20,000.
+    /// - An object is 20,000 or more, or, with as many prices as picks, 10,000 or more.
+    /// - The cost of a pick is beyond 10^9 in magnitude, or a price is not from 0 to 2^61.
+    /// - No person is named, or more than 10,000 objects are.
+    /// - The persons are not in rising order or not below 10,000, or the objects are not in rising order or not below
+    ///   20,000.
+    ///
+    /// Takes O(persons + objects) time and no memory.
     pub fn make(parts: CertParts) -> Result<Cert, CertParts>
         ensures ok { IsOk result ↔ IsSpelled parts }
         ensures same { MatchResult result (λ c. c ≡ parts) (λ e. e ≡ parts) }
@@ -130,7 +136,7 @@ impl Cert {
         }
     }
 
-    /// The certificate of parts that a text spells, as those that were read from one. Takes no time.
+    /// The certificate of parts that a text spells, such as those that were read from one. Takes no time.
     pub fn of(parts: CertParts) -> Cert
         requires { IsSpelled parts }
         ensures { result ≡ parts }
@@ -138,7 +144,7 @@ impl Cert {
         Cert { parts }
     }
 
-    /// What the certificate claims.
+    /// The claim of the certificate.
     pub fn parts(&self) -> &CertParts
         ensures is { result.now ≡ self.now }
         ensures spelled { IsSpelled self.now }

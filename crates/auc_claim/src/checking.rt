@@ -1,4 +1,4 @@
-//! Whether a claim holds.
+//! The checker: whether a claim is true of a problem.
 
 ghost use Rattle.std.specs.Prelude.{◌≡◌, ◌≤◌, ◌<◌, ◌+◌, ◌∷◌, [], true, None, All, IsOk, length};
 ghost use Rattle.std.specs.List.{position};
@@ -26,8 +26,8 @@ fn is_sized(problem: &ArcList, choice: &[Pick], prices: &[i64]) -> bool
     choice.len() == problem.persons() as usize && prices.len() == problem.objects() as usize
 }
 
-/// Whether the picks are an assignment of this cost, where there are as many as persons and `missing` is the first
-/// person whose pick is no arc of his: each an arc of his person, no object twice.
+/// Whether the picks are an assignment of this cost: each an arc of its person, no object twice. There are as many
+/// picks as persons, and `missing` is the first person whose pick is no arc of that person.
 fn check_picks(
     alloc: Global,
     problem: &ArcList,
@@ -55,8 +55,8 @@ fn check_picks(
     Ok(())
 }
 
-/// Whether no arc of a person is better than his pick by more than 1, on the scale of persons + 1; `is_slack` where
-/// this is known. Who has a better arc is looked for only where it isn't.
+/// Whether no arc of a person is better than the person's pick by more than 1, on the scale of persons + 1; `is_slack`
+/// where this is known. Only where it isn't, a person with a better arc is searched for.
 fn check_slack(
     alloc: Global,
     problem: &ArcList,
@@ -83,7 +83,7 @@ fn check_slack(
     }
 }
 
-/// Whether no object that nobody picks has a price.
+/// Whether each object that nobody picks has price 0.
 fn check_left_over(alloc: Global, choice: &[Pick], prices: &[i64]) -> Result<(), CertRefused>
     requires few { length prices.now ≤ MOST_OBJECTS }
     requires objects { All (λ p. p.object < length prices.now) choice.now }
@@ -117,7 +117,7 @@ fn check_bound(
     Ok(())
 }
 
-/// Whether the claim of an optimal assignment holds. Slack is seen in the pass that looks for the picks.
+/// Whether the claim of an optimal assignment is true. Slack is checked in the pass that looks for the picks.
 fn check_optimal(
     alloc: Global,
     problem: &ArcList,
@@ -157,7 +157,7 @@ fn check_infeasible(
     Ok(())
 }
 
-/// Whether the claim of a bracket holds, whichever limit ended the run.
+/// Whether the claim of a bracket is true, whichever limit ended the run.
 fn check_bracket(
     alloc: Global,
     problem: &ArcList,
@@ -180,30 +180,29 @@ fn check_bracket(
     check_bound(alloc, problem, lower, prices)
 }
 
-/// Whether the claim of a certificate holds of a problem, or else its first fault.
+/// Whether the claim of a certificate is true of a problem, or else its first fault.
 ///
-/// An optimal claim that is answered `Ok` is a least-cost assignment: no assignment of the problem costs less than
-/// `cost`. That is weak duality: prices by which no pick is worse than another arc of its person by more than 1, where
-/// costs are multiplied by persons + 1, and by which an object that nobody picks has none, bound the cost of every
-/// assignment from below.
+/// An optimal claim that gets `Ok` is a least-cost assignment: no assignment of the problem costs less than `cost`.
+/// This is weak duality, with costs multiplied by persons + 1. At its prices no pick is worse than another arc of its
+/// person by more than 1, and an object that nobody picks has price 0. Such prices bound the cost of every assignment
+/// from below.
 ///
-/// A bracket that is answered `Ok` is an assignment of this cost, and no assignment of the problem costs less than
-/// `lower`: the least cost that, multiplied by persons + 1, is at least the dual bound of the prices. Which limit ended
-/// the run that made it is not looked at.
+/// A bracket that gets `Ok` is an assignment of this cost, and no assignment of the problem costs less than `lower`.
+/// That is the least cost that, multiplied by persons + 1, is at least the dual bound of the prices. The limit that
+/// ended the run is ignored.
 ///
-/// An infeasible claim that is answered `Ok` names persons who together know fewer objects than they number, so that
-/// there is no assignment (Hall 1935).
+/// An infeasible claim that gets `Ok` names persons who together have arcs to fewer objects than they number, so there
+/// is no assignment (Hall 1935).
 ///
 /// # Errors
 ///
 /// Of an optimal claim, in this order: [`CertRefused::WrongSize`], [`CertRefused::NoSuchArc`],
 /// [`CertRefused::ObjectTwice`], [`CertRefused::WrongCost`], [`CertRefused::Slack`], [`CertRefused::LeftOver`]. Of a
 /// bracket the same, with [`CertRefused::WrongBound`] in place of the last two. Of an infeasible one only
-/// [`CertRefused::NotHall`]. [`CertRefused::NoMemory`] may stand in place of any other answer, where memory was
-/// refused.
+/// [`CertRefused::NotHall`]. [`CertRefused::NoMemory`] may come in place of any other answer, where memory was refused.
 ///
 /// Takes O(arcs + persons + objects) time and O(persons + objects) memory: one pass over the arcs for an optimal claim
-/// that holds, else two at most.
+/// that is true, else two at most.
 pub fn check(alloc: Global, problem: &ArcList, cert: &Cert) -> Result<(), CertRefused>
     ensures exact { AnswersUnless CertRefused.NoMemory (λ x. x) result (IsVerdict (fault_of problem.now cert.now)) }
     ensures allowed { IsOk result → IsAllowed problem.now cert.now }

@@ -1,4 +1,4 @@
-//! What one pass over the arcs shows of each person's pick: a flag for each person.
+//! The result of one pass over the arcs for each person's pick: a flag for each person.
 
 ghost use Rattle.std.specs.Prelude.{◌≡◌, ◌<◌, ◌≤◌, ◌+◌, ◌^◌, not, ◌&&◌, true, length, map, All, None, IfOk, pos, neg_ℤ, ◌+ℤ◌, ◌*ℤ◌, ◌≤ℤ◌, int_le};
 ghost use Rattle.std.specs.List.{position};
@@ -38,7 +38,7 @@ fn is_same(person: u32, pick: Pick, arc: Arc) -> bool
     person == arc.person && pick.object == arc.object && pick.cost == arc.cost
 }
 
-/// For each person, that no arc is his pick.
+/// For each person, that the pick is none of the person's arcs.
 fn missing_flags(alloc: Global, choice: &[Pick], arcs: &[Arc]) -> Result<Vec<bool>, AllocError>
     requires { All (λ a. a.person < length choice.now) arcs.now }
     ensures { IfOk result (λ v. AreFlags (is_missing arcs.now) choice.now v.items) }
@@ -52,7 +52,7 @@ fn missing_flags(alloc: Global, choice: &[Pick], arcs: &[Arc]) -> Result<Vec<boo
     Ok(flags)
 }
 
-/// The first person whose pick is no arc of his.
+/// The first person whose pick is no arc of that person.
 pub(crate) fn missing_person(
     alloc: Global,
     choice: &[Pick],
@@ -66,7 +66,7 @@ pub(crate) fn missing_person(
     Ok(first_person(missing.as_slice(), true))
 }
 
-/// The value of an arc: its scaled cost and the price of its object.
+/// The value of an arc: its scaled cost plus the price of its object.
 fn value_of(scale: u32, cost: i64, price: i64) -> i128
     ensures is { result ≡ pos scale *ℤ cost +ℤ price }
     ensures low { neg_ℤ (pos (2 ^ 96)) ≤ℤ result }
@@ -86,7 +86,7 @@ fn is_slack_beside_arc(scale: u32, prices: &[i64], person: u32, pick: Pick, arc:
             <= value_of(scale, arc.cost, prices[arc.object as usize]) + 1
 }
 
-/// For each person, that his pick is slack-right.
+/// For each person, that the pick is slack-right.
 fn slack_flags(
     alloc: Global,
     scale: u32,
@@ -107,7 +107,7 @@ fn slack_flags(
     Ok(flags)
 }
 
-/// The first person who has an arc better than his pick by more than 1.
+/// The first person who has an arc better than the pick by more than 1.
 pub(crate) fn slack_person(
     alloc: Global,
     scale: u32,
@@ -124,7 +124,7 @@ pub(crate) fn slack_person(
     Ok(first_person(fine.as_slice(), false))
 }
 
-/// The value of an arc of a problem or a certificate, whose costs and prices are so small that 64 bits hold it.
+/// The value of an arc of a problem or a certificate, whose costs and prices are so small that it has 64 bits.
 fn small_value(scale: u32, cost: i64, price: i64) -> i64
     requires scale { scale ≤ MOST_PERSONS + 1 }
     requires cost_low { neg_ℤ MOST_COST ≤ℤ cost }
@@ -178,7 +178,8 @@ fn is_near(scale: u32, prices: &[i64], value: i64, arc: Arc) -> bool
     value <= small_value(scale, arc.cost, prices[arc.object as usize]) + 1
 }
 
-/// The first person whose pick is no arc of his, and whether no person has an arc better than his pick by more than 1.
+/// The first person whose pick is no arc of that person, and whether no person has an arc better than the pick by more
+/// than 1.
 pub(crate) fn first_look(
     alloc: Global,
     scale: u32,

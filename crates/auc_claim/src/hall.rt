@@ -1,4 +1,4 @@
-//! Whether persons together know fewer objects than they number.
+//! Whether persons and objects are a Hall violator.
 
 ghost use Rattle.std.specs.Prelude.{◌≡◌, ◌<◌, ◌||◌, not, false, length, All, IfOk, slice_index_or};
 ghost use Rattle.std.specs.List.{list_all};
@@ -14,7 +14,7 @@ fn are_below(numbers: &[u32], end: u32) -> bool
     numbers.iter().all(|number| *number < end)
 }
 
-/// A flag for each number below `end`, whether it is listed.
+/// A flag for each number below `end`: whether it is listed.
 fn listed_flags(alloc: Global, end: usize, numbers: &[u32]) -> Result<Vec<bool>, AllocError>
     requires { All (λ k. k < end) numbers.now }
     ensures size { IfOk result (λ v. length v.items ≡ end) }

@@ -19,8 +19,7 @@ pub fn faultless_claims_are_allowed()
     ensures { (p : Problem) (c : CertParts) → IsProblem p → IsSpelled c → fault_of p c ≡ None → IsAllowed p c }
 {}
 
-/// Persons who together know too few objects have a certificate, if both are named in rising order, and the checker
-/// finds no fault in it.
+/// A Hall violator has a certificate, if persons and objects are in rising order, and the checker finds no fault in it.
 pub fn hall_sets_pass()
     ensures spelled { (p : Problem) (persons objects : List ℕ) → IsProblem p → IsHallSet p persons objects
         → IsRising persons → IsRising objects → ((j : ℕ) → Contains objects j → j < p.objects)
@@ -29,9 +28,9 @@ pub fn hall_sets_pass()
         → ((j : ℕ) → Contains objects j → j < p.objects) → fault_of p (Infeasible persons objects) ≡ None }
 {}
 
-/// An assignment has an optimal certificate with each list of prices in range, one for each object; and the checker
-/// finds no fault in it where no arc of a person is better at these prices than his chosen one by more than 1, and no
-/// object that nobody takes has a price.
+/// An assignment has an optimal certificate with each list of prices in range, one for each object. The checker finds
+/// no fault in it where two facts hold at these prices. No arc of a person is better than the chosen one by more than
+/// 1, and each object that nobody takes has price 0.
 pub fn assignments_pass()
     ensures spelled { (p : Problem) (choice : List Arc) (prices : List ℤ) → IsProblem p → IsAssignment p choice
         → length prices ≡ p.objects → All IsPrice prices
@@ -41,9 +40,9 @@ pub fn assignments_pass()
         → IsNoPriceLeft prices choice → fault_of p (Optimal (total_cost choice) (map pick_of choice) prices) ≡ None }
 {}
 
-/// An assignment has a bracket, whichever limit ended the run, with each list of prices in range, one for each object
-/// and no more than persons above 0, and the least cost that their dual bound allows; and the checker finds no fault in
-/// it.
+/// An assignment has a bracket, whichever limit ended the run, with each list of prices in range, one for each object,
+/// of which no more than persons are above 0. Its bound is the least cost that their dual bound allows. The checker
+/// finds no fault in it.
 pub fn brackets_pass()
     ensures spelled { (p : Problem) (choice : List Arc) (prices : List ℤ) (lower : ℤ) (reason : Reason) → IsProblem p
         → IsAssignment p choice → length prices ≡ p.objects → All IsPrice prices → AreFewPriced p prices

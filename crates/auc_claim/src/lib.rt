@@ -1,7 +1,9 @@
-//! What a certificate claims, and the checker: what [`check`] accepts is true of the problem, of all its assignments.
+//! The claims of certificates, and the checker.
 //!
-//! Nobody who made a certificate has to be trusted: a claim that is accepted is proved, whoever found it. The text of
-//! certificates is for `auc_cert`.
+//! [`check`] tests a claim by weak duality or by Hall's condition (1935), in O(arcs + persons + objects) time.
+//!
+//! Proved: what [`check`] accepts is true of the problem, of all its assignments. So nobody who made a certificate has
+//! to be trusted. The text of certificates is in `auc_cert`.
 #![tactic(auto)]
 
 mod cert;

@@ -1,11 +1,11 @@
-//! The lists that certificates hold, each a type of its own over a `Vec`.
+//! The lists in certificates, each a type of its own over a `Vec`.
 
 ghost use Rattle.std.specs.Prelude.{◌≡◌};
 
 use auc_graph::Indices;
 use std::marker::Model;
 
-/// What a person takes: this object, by an arc of this cost of the file.
+/// The pick of a person: this object, by an arc of this cost of the file.
 #[derive(Clone, Copy, Debug, PartialEq, Eq)]
 pub struct Pick {
     pub cost: i64,
@@ -14,8 +14,8 @@ pub struct Pick {
 
 /// A pick for each person, in the order of the persons. Contracts see it as a list.
 ///
-/// Whoever has chosen them from a list of arcs may hand on where these stand in it. No contract says that they do, so
-/// whoever reads it looks.
+/// A caller that has chosen them from a list of arcs may pass their places in it. No contract says that the places are
+/// right, so each reader checks them.
 #[derive(Debug, Drop)]
 pub struct Picks {
     picks: Vec<Pick>,
@@ -42,7 +42,7 @@ impl Picks {
         }
     }
 
-    /// The same, with the place of each one's arc in the list that they were chosen from. Takes no memory.
+    /// The same, with the place of each pick's arc in the list that they were chosen from. Takes no memory.
     pub fn with_places(picks: Vec<Pick>, places: Indices) -> Self
         ensures { result ≡ picks.items }
     {
@@ -52,7 +52,7 @@ impl Picks {
         }
     }
 
-    /// The picks, given back.
+    /// Returns the picks.
     pub fn into_vec(self) -> Vec<Pick>
         ensures { result.items ≡ self }
     {
@@ -67,7 +67,7 @@ impl Picks {
         self.picks.as_slice()
     }
 
-    /// The places that were handed on with them, indexed by person, if any were.
+    /// The places that were passed with them, indexed by person, if any were.
     pub fn places(&self) -> Option<&[u32]> {
         match &self.places {
             Some(places) => Some(places.as_slice()),
@@ -99,7 +99,7 @@ impl Prices {
         Prices { prices }
     }
 
-    /// The prices, given back.
+    /// Returns the prices.
     pub fn into_vec(self) -> Vec<i64>
         ensures { result.items ≡ self }
     {

@@ -1,4 +1,4 @@
-//! What the picks show by themselves: their cost, whether two take one object, and which objects nobody takes.
+//! What the picks alone show: their cost, whether two take one object, and the objects that nobody takes.
 
 ghost use Rattle.std.specs.Prelude.{◌≡◌, ◌<◌, ◌^◌, [], length, map, All, IfOk};
 ghost use Rattle.std.specs.List.{position, range_with_len};
@@ -8,7 +8,7 @@ ghost use Rattle.auc_claim.specs.Claim.{chosen, picked, repeated, is_left_over, 
 use crate::lists::Pick;
 use std::alloc::{AllocError, Global};
 
-/// What picks cost together. O(persons).
+/// The total cost of the picks. O(persons).
 pub fn cost_of(choice: &[Pick]) -> i128
     requires { length choice.now < 2 ^ 32 }
     ensures { result ≡ total_cost (chosen 0 choice.now) }
@@ -20,7 +20,7 @@ pub fn cost_of(choice: &[Pick]) -> i128
     sum
 }
 
-/// The object of the first person who takes one that an earlier person takes too.
+/// The object of the first person whose object an earlier person takes too.
 pub(crate) fn repeated_object(
     alloc: Global,
     objects: usize,
@@ -40,7 +40,7 @@ pub(crate) fn repeated_object(
     Ok(None)
 }
 
-/// A flag for each object, whether somebody picks it.
+/// A flag for each object: whether any person picks it.
 fn picked_flags(alloc: Global, objects: usize, choice: &[Pick]) -> Result<Vec<bool>, AllocError>
     requires { All (λ c. c.object < objects) choice.now }
     ensures size { IfOk result (λ v. length v.items ≡ objects) }
@@ -53,7 +53,7 @@ fn picked_flags(alloc: Global, objects: usize, choice: &[Pick]) -> Result<Vec<bo
     Ok(flags)
 }
 
-/// The first object that nobody picks and that has a price. O(persons + objects).
+/// The first object that nobody picks and that has a price above 0. O(persons + objects).
 pub(crate) fn left_over(
     alloc: Global,
     choice: &[Pick],

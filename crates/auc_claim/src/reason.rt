@@ -1,13 +1,13 @@
-//! Which limit ended a run.
+//! The limit that ended a run.
 
-/// Which limit ended a run of the solver.
+/// The limit that ended a run of the solver.
 #[derive(Clone, Copy, Debug, PartialEq, Eq)]
 pub enum Reason {
     /// A shard of the persons has used up its bids.
     Bids,
     /// A person would have to bid more than the greatest price.
     Ceiling,
-    /// A lane of a mail has had as many letters as it may have.
+    /// A lane of a mail has had all its posts.
     Posts,
     /// A trail has no place left.
     Trail,

@@ -1,4 +1,4 @@
-//! The start of a run: the prices of an old certificate.
+//! The start of a run (a warm start): the prices of an old certificate.
 
 ghost use Rattle.std.specs.Prelude.{◌≡◌, ◌<◌, ◌^◌, length, All, IfOk};
 ghost use Rattle.auc_graph.specs.Memory.{AnswersUnless};
@@ -48,20 +48,24 @@ fn start_of(
     Ok(prices.to_vec(alloc)?)
 }
 
-/// The prices of a certificate, for a run that is to start from them on a problem whose arcs or costs may have changed
-/// since (`auc_world::solve_serial_from`): scaled costs, indexed by object, as many as persons.
+/// The prices of a certificate, as start prices: scaled costs, indexed by object, as many as persons. A run may start
+/// from them on a problem whose arcs or costs may have changed since (`auc_world::solve_serial_from`).
 ///
 /// Only the prices are used. The picks, the cost and the bound aren't judged, and any prices from 0 to 2^60 are lawful:
-/// good ones spare bids, and bad ones cost them.
+/// good ones save bids, and bad ones cost bids.
 ///
 /// Takes O(persons) time and memory.
 ///
 /// # Errors
 ///
-/// In this order: [`StartError::NotSquare`] where the problem has more objects than persons, [`StartError::NoPrices`]
-/// where the certificate is of a Hall set, [`StartError::OtherSize`] where its picks or its prices aren't as many as
-/// the problem's persons, and [`StartError::TooHigh`] with the first object whose price is above 2^60.
-/// [`StartError::NoMemory`] may stand in place of any other answer, where memory was refused.
+/// In this order:
+///
+/// - [`StartError::NotSquare`] where the problem has more objects than persons;
+/// - [`StartError::NoPrices`] where the certificate is of a Hall set;
+/// - [`StartError::OtherSize`] where its picks or its prices aren't as many as the problem's persons;
+/// - [`StartError::TooHigh`] with the first object whose price is above 2^60.
+///
+/// [`StartError::NoMemory`] may come in place of any other answer, where memory was refused.
 pub fn start_prices(alloc: Global, problem: &ArcList, cert: &Cert) -> Result<Vec<i64>, StartError>
     ensures exact { AnswersUnless StartError.NoMemory (λ v. v.items) result (λ r. r ≡ start_of problem.now cert.now) }
     ensures start { IfOk result (λ v. AreStart problem.now v.items) }

@@ -21,7 +21,7 @@ pub enum StartError {
     /// This is the first object whose price is above 2^60.
     #[error("the price of object {object} is too high to start from")]
     TooHigh { object: u32 },
-    /// Memory ran out.
+    /// Memory was refused.
     #[error("out of memory")]
     NoMemory,
 }

@@ -5,7 +5,7 @@ ghost use Rattle.auc_claim.specs.Spelled.{most_in, version_of_sizes, names_versi
 
 use crate::limits::{MOST_OBJECTS, MOST_OBJECTS_IN_FIRST};
 
-/// The version of a certificate's text. What version 1 spells is spelled in version 1, all else in version 2.
+/// The version of a certificate's text. A claim that version 1 can spell is in version 1, any other in version 2.
 #[derive(Clone, Copy, Debug, PartialEq, Eq)]
 pub enum Version {
     /// As many prices as picks, and objects up to 10,000.
@@ -15,7 +15,7 @@ pub enum Version {
 }
 
 impl Version {
-    /// The version of a claim with so many picks and prices.
+    /// The version of a claim with these numbers of picks and prices.
     pub fn of_sizes(picks: usize, prices: usize) -> Version
         ensures { result ≡ version_of_sizes picks prices }
     {
@@ -26,7 +26,7 @@ impl Version {
         }
     }
 
-    /// How many objects a certificate numbers at most.
+    /// The greatest number of objects that a certificate numbers.
     pub fn most_objects(self) -> u32
         ensures most { result ≡ most_in self }
         ensures few { result ≤ MOST_OBJECTS }

@@ -1,5 +1,5 @@
-//! A full table, solved by a search over its costs of which nothing is proved: persons try what it proposes before they
-//! take it.
+//! A full table, solved by a search over its costs. Nothing is proved of the search: the market tries its proposal
+//! before it is taken.
 
 ghost use Rattle.std.specs.Prelude.{pos, length, IfOk, IfSome};
 ghost use Rattle.auc_direct.specs.Adopted.{IsFullTable};
@@ -11,8 +11,8 @@ use auc_rows::FlatRows;
 use auc_table::{HIGHEST_TAKEN, Proposal, Table, propose};
 use std::alloc::{AllocError, Global};
 
-/// The costs of all rows, one row after another. None where the rows aren't a full table: no clause of theirs says that
-/// they are, so each arc is looked at.
+/// The costs of all rows, one row after another. None where the rows aren't a full table. No clause says that they are,
+/// so each arc is looked at.
 fn costs_of(alloc: Global, rows: &FlatRows) -> Result<Option<Vec<i64>>, AllocError>
     ensures { IfOk result (λ o. IfSome o (λ costs. IsFullTable rows.now)) }
 {
@@ -34,7 +34,7 @@ fn costs_of(alloc: Global, rows: &FlatRows) -> Result<Option<Vec<i64>>, AllocErr
     Ok(Some(costs))
 }
 
-/// Proposed prices, scaled. None where there isn't one for each object, or where one is below 0 or too high.
+/// Proposed prices, scaled. None where there isn't one for each object, or where one is below 0 or above the greatest.
 fn scaled_prices(rows: &FlatRows, mut prices: Vec<i64>) -> Option<Vec<i64>>
     ensures { IfSome result (λ scaled. ArePricesOf rows.now scaled.items) }
 {
@@ -52,9 +52,9 @@ fn scaled_prices(rows: &FlatRows, mut prices: Vec<i64>) -> Option<Vec<i64>>
     Some(prices)
 }
 
-/// Solves a full table by a search that may look at so many costs, and tries what it proposes. None where the rows
-/// aren't a full table, or where that doesn't show a least assignment. Takes O(persons * objects) time and 8 bytes of
-/// memory an arc beside the search.
+/// Solves a full table by a search that may scan at most `looks` costs, and tries its proposal. None where the rows
+/// aren't a full table, or where the proposal doesn't show a least assignment. Takes O(persons * objects) time and 8
+/// bytes of memory an arc beside the search.
 ///
 /// # Errors
 ///

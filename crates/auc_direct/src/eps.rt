@@ -1,4 +1,4 @@
-//! Eps by phases, in scaled costs.
+//! The values of eps of the phases (epsilon scaling), in scaled costs.
 
 ghost use Rattle.std.specs.Prelude.{◌≡◌, pos, ◌<ℤ◌, ◌≤ℤ◌, IfSome, IfNone};
 ghost use Rattle.auc_market.specs.Eps.{IsEpsOf};
@@ -7,10 +7,10 @@ use crate::tuning::STEP;
 use auc_market::LAST_EPS;
 use auc_rows::FlatRows;
 
-/// The most arcs that a row is taken to have: as many as there may be objects.
+/// The greatest number of arcs that a row is taken to have: the greatest number of objects.
 const MOST_PARTS: usize = 20_000;
 
-/// The mean number of a row's arcs.
+/// The mean number of arcs of a row.
 fn mean_arcs(rows: &FlatRows) -> i64
     ensures low { pos 1 ≤ℤ result }
     ensures high { result ≤ℤ pos 20000 }
@@ -23,7 +23,7 @@ fn mean_arcs(rows: &FlatRows) -> i64
     mean as i64
 }
 
-/// The root of a mean number of arcs, rounded up.
+/// The square root of a mean number of arcs, rounded up.
 fn root_of(number: i64) -> i64
     ensures { pos 1 ≤ℤ result }
 {
@@ -35,8 +35,8 @@ fn root_of(number: i64) -> i64
     142
 }
 
-/// The mean spread of a row, divided by the mean number of its arcs, and at least 1: where costs are drawn at random,
-/// how much neighbours differ.
+/// The mean spread of a row, divided by the mean number of its arcs, and at least 1. Where costs are random, this is
+/// the difference between neighbouring costs.
 pub(crate) fn fine_eps(rows: &FlatRows, spread: i64) -> i64
     requires { IsEpsOf rows.now spread }
     ensures { IsEpsOf rows.now result }
@@ -44,8 +44,8 @@ pub(crate) fn fine_eps(rows: &FlatRows, spread: i64) -> i64
     (spread / mean_arcs(rows)).max(LAST_EPS)
 }
 
-/// The mean spread of a row, divided by the root of the mean number of its arcs, and at least 1: where the other one
-/// was too fine.
+/// The mean spread of a row, divided by the square root of the mean number of its arcs, and at least 1. It is for a run
+/// whose first eps was too fine.
 pub(crate) fn coarse_eps(rows: &FlatRows, spread: i64) -> i64
     requires { IsEpsOf rows.now spread }
     ensures { IsEpsOf rows.now result }
@@ -53,7 +53,7 @@ pub(crate) fn coarse_eps(rows: &FlatRows, spread: i64) -> i64
     (spread / root_of(mean_arcs(rows))).max(LAST_EPS)
 }
 
-/// An eighth of the last eps, and at least 1; none after 1.
+/// An eighth of this eps, and at least 1; none after 1.
 pub(crate) fn next_eps(eps: i64) -> Option<i64>
     requires { pos 1 ≤ℤ eps }
     ensures low { IfSome result (λ next. pos 1 ≤ℤ next) }

@@ -1,4 +1,4 @@
-//! What a phase leaves, with the places of the arcs in the problem's list.
+//! The result of a phase, with the places of the arcs in the problem's list.
 
 ghost use Rattle.std.specs.Prelude.{ℕ, true, false, ◌≡◌, ◌<◌, length, IfOk, IfSome};
 ghost use Rattle.auc_direct.specs.Held.{AreHeld, AreHolders, AreListed, arc_by};
@@ -11,7 +11,7 @@ use auc_market::Holdings;
 use auc_rows::{FlatRows, ShortArc};
 use std::alloc::{AllocError, Global};
 
-/// Whether an arc is the one by which its person holds what he has, or just as one.
+/// Whether an arc is the one by which its person holds an object, or one with the same object and cost.
 #[inline(always)]
 fn is_own(owns: &[ShortArc], arc: &Arc) -> bool
     requires { arc.now.person < length owns.now }
@@ -22,8 +22,8 @@ fn is_own(owns: &[ShortArc], arc: &Arc) -> bool
     own.object == arc.object && i64::from(own.cost) == arc.cost
 }
 
-/// Where the arc of a person to an object stands in the problem's list, if that has the order of the rows, and his row
-/// rises. Who asks looks whether it does.
+/// The place in the problem's list of a person's arc to an object, if the list has the order of the rows and the row is
+/// sorted by object. The caller checks whether the arc is there.
 #[inline(always)]
 fn place_of(rows: &FlatRows, person: u32, object: u32) -> usize
     requires { person < length rows.now.rows }
@@ -32,8 +32,8 @@ fn place_of(rows: &FlatRows, person: u32, object: u32) -> usize
     rows.start(person).saturating_add(before)
 }
 
-/// Who holds each object by which arc, where each such arc stands where the rows let guess; else none. O(persons * log
-/// arcs of a person).
+/// The holder of each object and the place of the holder's arc, where the rows let it be guessed; else none.
+/// O(persons * log arcs of a person).
 fn guessed(
     alloc: Global,
     problem: &ArcList,
@@ -87,8 +87,8 @@ fn passed(
     Ok(holders)
 }
 
-/// Who holds each object by which arc, and the prices. Rows have no places of arcs, so these are guessed, and where a
-/// guess is wrong looked for in one pass over the problem's list.
+/// The holder of each object, by which arc, and the prices. Rows have no places of arcs, so these are guessed. Where a
+/// guess is wrong, they are found in one pass over the problem's list.
 ///
 /// # Errors
 ///

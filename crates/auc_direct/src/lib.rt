@@ -1,11 +1,18 @@
-//! The direct solver: when the market makes which move, and what it is told of the problem.
+//! The direct solver: which move of the market is made when, and the answer that comes of it.
 //!
 //! [`solve_direct`] answers as `auc_world::solve_serial` does, with no shards, letters or mails: by certificates in
 //! which the checker finds no fault.
 //!
-//! The strategy: `run.rt` makes moves of an [`auc_market::Market`]; `rules.rt` and `tuning.rt` choose which, and no
-//! answer depends on these two. `reduce.rt` and `adopt.rt` are where a run begins, and `solving.rt` makes an answer of
-//! what it has come to.
+//! The method is the Gauss-Seidel auction with epsilon scaling (Bertsekas, 1979; Bertsekas and Eckstein, 1988).
+//! Shortest augmenting paths (Edmonds and Karp, 1972), column reduction (Jonker and Volgenant, 1987) and price
+//! refinement (Goldberg and Kennedy, 1995) speed it up. A bid takes O(arcs of the person), a path at most O(arcs * log
+//! arcs).
+//!
+//! Proved: what each answer says, and that no phase makes more bids than it may. Not proved: speed, or that a path is
+//! taken at all.
+//!
+//! `run.rt` makes moves of an [`auc_market::Market`]; `rules.rt` and `tuning.rt` choose which, and no answer depends on
+//! these two. A run begins in `reduce.rt` and `adopt.rt`; `solving.rt` makes an answer of its result.
 #![tactic(auto)]
 
 mod adopt;

@@ -1,10 +1,10 @@
-//! Who watches no run.
+//! A watch that lets each run go on.
 
 ghost use Rattle.std.specs.Prelude.{true, false};
 
 use auc_market::{Progress, Watch};
 
-/// Lets every run go on.
+/// Never says no.
 #[derive(Clone, Copy, Debug, PartialEq, Eq)]
 pub struct Onward;
 

@@ -1,5 +1,5 @@
-//! What a run with as many objects as persons begins with: prices at which the cheapest arc of each column is worth the
-//! same.
+//! Column reduction, for a run with as many objects as persons: prices at which the cheapest arcs of all columns have
+//! the same value.
 
 ghost use Rattle.std.specs.Prelude.{ℤ, ◌≡◌, ◌⊎◌, pos, length, IfOk};
 ghost use Rattle.auc_graph.specs.Price.{IsPrice};
@@ -9,7 +9,7 @@ ghost use Rattle.auc_market.specs.Scan.{IsScale};
 use auc_rows::FlatRows;
 use std::alloc::{AllocError, Global};
 
-/// The greatest of the least costs of all columns; the least number where nobody knows any object.
+/// The greatest of the least costs of all columns; the least number where no object has an arc.
 fn greatest_of(rows: &FlatRows) -> i32 {
     let mut greatest = i32::MIN;
     for object in 0..rows.objects() {
@@ -20,8 +20,8 @@ fn greatest_of(rows: &FlatRows) -> i32 {
     greatest
 }
 
-/// The price at which an arc of one cost is worth as much as one of another at price 0; and 0 where that one costs
-/// less.
+/// The price at which an arc of one cost has the same value as an arc of another cost at price 0; 0 where that one
+/// costs less.
 fn price_between(scale: i64, cost: i32, greatest: i32) -> i64
     requires { IsScale scale }
     ensures { IsPrice result }
@@ -31,8 +31,8 @@ fn price_between(scale: i64, cost: i32, greatest: i32) -> i64
 }
 
 /// Prices that a run may begin with, by column reduction (Jonker and Volgenant, 1987). With as many objects as persons
-/// these are so that the cheapest arc of each object is worth as much as that of any other, and the object whose
-/// cheapest arc costs most, and any that nobody knows, have price 0; else all are 0. O(objects).
+/// the cheapest arcs of all objects have the same value at them. The object whose cheapest arc costs most has price 0,
+/// and so has an object with no arc. With more objects all prices are 0. O(objects).
 pub(crate) fn start_prices(alloc: Global, rows: &FlatRows) -> Result<Vec<i64>, AllocError>
     ensures { (eps : ℤ) → (rows.now.objects ≡ length rows.now.rows) ⊎ (eps ≡ pos 1) → IfOk result (λ v. IsStart rows.now eps v.items) }
 {

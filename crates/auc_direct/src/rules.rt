@@ -1,30 +1,30 @@
-//! The rules by which a run chooses its phases. They see numbers of bids and arcs alone, so no answer depends on them.
+//! The rules by which a run chooses its phases. They see only numbers of bids and arcs, so no answer depends on them.
 //!
-//! 1. **Scaled costs.** Costs count one more than there are persons times. Who is within 1 of his best at the end shows
-//!    that nothing costs less.
-//! 2. **A bid is an award** (Gauss-Seidel). A person without an object takes his best one at once, and whom he
-//!    displaces bids next. Two such chains take turns.
-//! 3. **Bid or search** (`auc_market`, `Pace`). In the last phase a chain that has taken as long as searches did lately
-//!    ends by a shortest augmenting path; before it, where chains mostly end by themselves, one that has taken some
-//!    times
-//!    as long. Where no free object is in reach, those who were reached know too few objects.
-//! 4. **Phases.** Columns are reduced; eps begins at the mean spread of a row by the mean number of its arcs, and falls
-//!    by eighths. Prices stay, and nobody keeps what he holds.
+//! 1. **Scaled costs.** Costs are multiplied by the persons plus one. So an assignment in which each person is within 1
+//!    of the best at the end has the least cost.
+//! 2. **A bid is an award** (Gauss-Seidel). A person without an object takes the best one at once, and the person whom
+//!    this displaces bids next. Two such chains take turns.
+//! 3. **Bid or search** (`auc_market`, `Pace`). In the last phase a chain that has taken as long as the latest searches
+//!    did ends by a shortest augmenting path. Before the last phase chains mostly end by themselves. There a chain may
+//!    take some times as long. Where no free object can be reached, the persons reached are a Hall violator.
+//! 4. **Phases** (epsilon scaling). Columns are reduced. Eps begins at the mean spread of a row divided by the mean
+//!    number of its arcs, and is divided by 8 from phase to phase. Prices stay, and nobody keeps an object.
 //! 5. **Too fine, or calm.** A first phase is given up once it has made more bids for each person than eps can be
-//!    halved before it is 1. Eps then begins anew, at the mean spread of a row divided by the root of the
-//!    mean number of its arcs. After a phase of fewer than two bids a person the last phase is tried at once; it may make a bid a person for each phase that lies ahead. So it is after two phases in a row that
-//!    made about as many bids as the one before each; it may make as many.
-//! 6. **Refinement.** Where phases take no fewer bids than before at an eps that whole costs hardly tell, prices are
-//!    refined, for as long as two bids of that phase each.
-//! 7. **More objects than persons.** One phase at the last eps, from prices of 0, as what is left over may have no
-//!    price.
+//!    halved before it is 1. Eps then begins anew, at the mean spread of a row divided by the square root of the mean
+//!    number of its arcs. After a phase of fewer than two bids a person the last phase is tried at once. It may make a
+//!    bid a person for each phase that it skips. The last phase is also tried after two phases in a row that each made
+//!    about as many bids as the one before. It may make as many bids.
+//! 6. **Refinement.** Prices are refined where a phase took no fewer bids than the one before and eps is small beside
+//!    one unit of cost. A refinement may take as long as two scans for each bid of that phase.
+//! 7. **More objects than persons.** One phase at the last eps, from prices of 0, since an object that nobody holds has
+//!    to have price 0.
 
 use crate::tuning::{CALM, LOOKS, PART, STARTED, STEADY, TABLE};
 use auc_market::LAST_EPS;
 use auc_rows::FlatRows;
 
-/// What the rules know of a problem; how many bids the last phase has made; and how many phases in a row took as many
-/// bids as the one before.
+/// What the rules need of a problem, and the number of bids of the last phase. `steady` is the number of phases in a
+/// row that took about as many bids as the one before.
 #[derive(Clone, Copy)]
 pub(crate) struct Rules {
     persons: u64,
@@ -33,8 +33,8 @@ pub(crate) struct Rules {
     steady: u8,
 }
 
-/// What may come between two phases: a refinement with so many looks, and the last phase with so many bids; none of
-/// what isn't tried.
+/// What may come between two phases: a refinement with at most `looks` scans, and the last phase with at most `bids`
+/// bids; 0 where it isn't tried.
 #[derive(Clone, Copy)]
 pub(crate) struct Between {
     pub(crate) looks: u64,
@@ -66,12 +66,13 @@ impl Rules {
         }
     }
 
-    /// How many bids a first phase at this eps may make before it is given up.
+    /// The number of bids that a first phase at this eps may make before it is given up.
     pub(crate) fn bids_of_first(self, eps: i64) -> u64 {
         self.persons.saturating_mul(halvings(eps).max(1))
     }
 
-    /// How many bids the last phase may make before its turn, after a phase of so many and before one at this eps.
+    /// The number of bids that the last phase may make when it is tried early: after a phase of `made` bids and before
+    /// a phase at this eps.
     fn bids_ahead(&mut self, made: u64, eps: i64) -> u64 {
         if eps <= LAST_EPS {
             return 0;
@@ -87,7 +88,7 @@ impl Rules {
         if self.steady == 2 { made } else { 0 }
     }
 
-    /// What comes after a phase of so many bids, and before one at this eps.
+    /// What comes after a phase of `made` bids and before a phase at this eps.
     pub(crate) fn after(&mut self, made: u64, eps: i64) -> Between {
         let looks = if made < self.before || eps > self.scale / PART {
             0
@@ -100,8 +101,8 @@ impl Rules {
     }
 }
 
-/// How many bids a run from start prices may make at the last eps before it begins as any other. With more objects than
-/// persons it may not: any number.
+/// The number of bids that a run from start prices may make at the last eps before it begins as a run without a start.
+/// With more objects than persons it may not begin so, and the number is any.
 pub(crate) fn bids_from_start(rows: &FlatRows) -> u64 {
     if rows.persons() < rows.objects() {
         return u64::MAX;
@@ -109,8 +110,8 @@ pub(crate) fn bids_from_start(rows: &FlatRows) -> u64 {
     STARTED.saturating_mul(u64::from(rows.persons()))
 }
 
-/// How many entries of a full table its own search may look at: any number with more objects than persons, where one
-/// phase at the last eps would take far longer.
+/// The number of entries that the search of a full table may scan. With more objects than persons any number: one phase
+/// at the last eps would take far longer.
 pub(crate) fn looks_at_table(rows: &FlatRows) -> u64 {
     if rows.persons() < rows.objects() {
         return u64::MAX;

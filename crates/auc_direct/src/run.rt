@@ -1,4 +1,4 @@
-//! A run: its phases one after another, as the rules choose them. This is epsilon scaling.
+//! A run: its phases one after another, as the rules choose them (epsilon scaling).
 
 ghost use Rattle.std.specs.Prelude.{true, ◌≡◌, ◌⊎◌, ◌<◌, ◌-◌, ◌^◌, length, IfErr, IfNone, IfOk, IfSome, OnOk};
 ghost use Rattle.auc_market.specs.Eps.{IsEpsOf};
@@ -16,15 +16,15 @@ use auc_market::{Ending, Halt, Holdings, LAST_EPS, Market, Pace, Watch};
 use auc_rows::FlatRows;
 use std::alloc::Global;
 
-/// How the last phase has ended, and what it leaves.
+/// How the last phase has ended, and the market that it leaves.
 #[derive(Drop)]
 pub(crate) struct Outcome {
     pub(crate) ending: Ending,
     pub(crate) holdings: Holdings,
 }
 
-/// A phase in which nobody keeps what he holds, tried with `few` bids where a run may make more. None where these have
-/// run out, or there are none of them.
+/// A phase in which nobody keeps an object, tried with `few` bids though a run may make more. None where these have run
+/// out, or where `few` is 0.
 fn play_anew<W: Watch>(
     market: &mut Market<'_>,
     eps: i64,
@@ -50,9 +50,9 @@ fn play_anew<W: Watch>(
     market.try_phase(bids, few, pace, watch)
 }
 
-/// A phase from the prices of the market, in which nobody keeps what he holds, and others after it, each from the
-/// prices of the one before: up to the last one, the first that a limit stops, or the one after which prices are
-/// refined until what persons hold is seen to cost least. Each may make so many bids.
+/// A phase from the prices of the market, in which nobody keeps an object, and others after it, each from the prices of
+/// the one before. It ends after the phase at the last eps, or after the first that a limit stops. It also ends where
+/// refinement shows that the assignment has the least cost. Each phase may make `bids` bids.
 fn play_phases<W: Watch>(
     market: &mut Market<'_>,
     rows: &FlatRows,
@@ -99,9 +99,9 @@ fn play_phases<W: Watch>(
     }
 }
 
-/// A run from what persons hold in a market at the last eps. The last phase is tried with `few` bids before anything
-/// else, in which those who hold something keep it: that is for a start. A full table is searched as one then, and with
-/// more objects than persons there is one phase.
+/// A run from the holdings of a market at the last eps. The last phase is tried with `few` bids before anything else,
+/// and persons keep what they hold in it: this is for a start. Then a full table is searched as a table; with more
+/// objects than persons there is one phase.
 pub(crate) fn run<W: Watch>(
     alloc: Global,
     rows: &FlatRows,

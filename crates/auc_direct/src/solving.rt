@@ -1,4 +1,4 @@
-//! The solver in one hand.
+//! The direct solver: from a problem to an answer.
 
 ghost use Rattle.std.specs.Prelude.{Bool, ◌↔◌, IsTrue, ℕ, ℤ, List, true, ◌≡◌, ◌⊎◌, pos, All, length, IfErr, IfOk, IfSome, IfNone};
 ghost use Rattle.auc_graph.specs.Assignment.{total};
@@ -27,10 +27,10 @@ use auc_market::{Ending, HallSet, Halt, Market, Watch};
 use auc_rows::FlatRows;
 use std::alloc::{AllocError, Global};
 
-/// How much the solver may use.
+/// The limits of the solver.
 #[derive(Clone, Copy, Debug, PartialEq, Eq)]
 pub struct DirectLimits {
-    /// How many bids a phase may make; any number.
+    /// The number of bids that a phase may make; any number.
     pub bids: u64,
 }
 
@@ -45,7 +45,7 @@ pub fn may_start(problem: &ArcList, start: &[i64]) -> bool
             .all(|price| 0 <= *price && *price <= HIGHEST_START)
 }
 
-/// The answer of a problem in which somebody has no arc; none where each has one.
+/// The answer of a problem in which a person has no arc; none where each person has one.
 fn answered(alloc: Global, problem: &ArcList, flat: &FlatRows) -> Result<Option<Answer>, AllocError>
     requires { AreRowsOf problem.now flat.now }
     ensures some { IfOk result (λ o. IfSome o (IsInfeasibleAnswer problem.now)) }
@@ -60,8 +60,8 @@ fn answered(alloc: Global, problem: &ArcList, flat: &FlatRows) -> Result<Option<
     }
 }
 
-/// The answer of a run that a limit has stopped: a bracket, or that there is no assignment. Only it wants the rows with
-/// their places, so they are laid out for it alone.
+/// The answer of a run that a limit has stopped: a bracket, or that there is no assignment. Only this answer needs rows
+/// with places, so they are built for it alone.
 fn bracketed(
     alloc: Global,
     problem: &ArcList,
@@ -84,7 +84,7 @@ fn bracketed(
     }
 }
 
-/// The answer of what all phases come to. Their rows go before it is made.
+/// The answer after all phases. The rows of the phases are freed before it is made.
 fn answer_of(
     alloc: Global,
     problem: &ArcList,
@@ -96,7 +96,7 @@ fn answer_of(
     requires left { IsLeft flat outcome.ending outcome.holdings.prices.items outcome.holdings.holders.items outcome.holdings.owns.items }
     ensures { IfOk result (IsTold problem.now flat outcome.ending outcome.holdings.prices.items) }
 {
-    // Read here, so that the proof knows what every problem keeps.
+    // Read here, so that the proof knows the invariant of the problem.
     let _ = problem.arcs();
     let Outcome { ending, holdings } = outcome;
     let each_has_one = holdings.all_have();
@@ -114,7 +114,7 @@ fn answer_of(
     }
 }
 
-/// The answer of a run that has ended at once: that there is no assignment, where it isn't that memory was refused.
+/// The answer of a run that has ended at once: that there is no assignment, unless memory was refused.
 fn halted(
     alloc: Global,
     problem: &ArcList,
@@ -163,28 +163,39 @@ fn concluded(
     }
 }
 
-/// Solves a problem: an arc for each person, no object twice, of the least cost together; or persons who together know
-/// fewer objects than they number; or, where a phase would take more than so many bids or a price above 2^61, an
-/// assignment and a bound on what any costs. The checker finds no fault in any claim: of a least assignment that is
-/// proved, and the others pass it here. `Broken` is never answered. No phase makes more bids than `limits` says: clause
-/// `run`.
+/// Solves a problem. The answer is a least-cost assignment, a Hall set, or a bracket: an assignment and a bound below
+/// which none costs. A bracket is answered where a phase would take more bids than `limits` allows, or a price above
+/// 2^61.
 ///
-/// The answer is right as that of `auc_world::solve_serial` is, but of several least assignments it may be another one.
+/// The checker finds no fault in any claim: of a least assignment that is proved, and the others pass it here. `Broken`
+/// is never answered. No phase makes more bids than `limits` says: clause `run`. The answer is right as that of
+/// `auc_world::solve_serial` is, but of several least assignments it may be another one.
 ///
-/// Takes the time of the bids, each O(arcs of the person), or O(1) where the list of a long row tells it, of the paths,
-/// each at most O(arcs * log arcs), and of one check of what is no least assignment. A full table is searched as one
-/// first ([`auc_table::propose`]), which takes no bids. A search for an assignment of any cost ([`auc_hall::complete`])
-/// is made where somebody has no arc, and for a bracket before the first phase has come to its end; it takes 12 bytes
-/// of memory an arc. Else 8 bytes an arc and some 60 an object are taken beside the problem's own, 176 a person where
-/// most arcs stand in rows of 48 and more, 8 an arc more while a full table is searched, and 16 for each label that
-/// waits in a search for a path, of which there are at most as many as arcs. That paths are taken at all no clause
-/// says, nor that lists are.
+/// Time:
 ///
-/// The method is the auction with epsilon scaling (Bertsekas, 1979; Bertsekas and Eckstein, 1988), in two chains that
-/// take turns, of each of which whoever is displaced bids next, and successive shortest paths (Edmonds and Karp, 1972)
-/// where that goes far; who is reached where no free object is knows too few. Columns are reduced before (Jonker and
-/// Volgenant, 1987), and price refinement (Goldberg and Kennedy, 1995) spares the last phases where what persons hold
-/// costs least before them. The rules stand in `rules.rt`.
+/// - A bid is O(arcs of the person), or O(1) where a candidate list decides it.
+/// - A path is at most O(arcs * log arcs).
+/// - What is no least assignment is checked once.
+/// - A full table is searched as a table first ([`auc_table::propose`]), which takes no bids.
+/// - A search for an assignment of any cost ([`auc_hall::complete`]) is made where a person has no arc, and for a
+///   bracket before the first phase has come to its end.
+///
+/// Memory beside the problem's own:
+///
+/// - The search for an assignment of any cost takes 12 bytes an arc.
+/// - Else the rows take 8 bytes an arc, and some 60 bytes an object are taken.
+/// - Candidate lists take 176 bytes a person where most arcs are in rows of 48 and more.
+/// - A full table takes 8 bytes an arc more while it is searched.
+/// - Each label that waits in a search for a path takes 16 bytes; there are at most as many as arcs.
+///
+/// No clause says that paths are taken at all, nor that lists are.
+///
+/// The method is the auction with epsilon scaling (Bertsekas, 1979; Bertsekas and Eckstein, 1988), in its Gauss-Seidel
+/// form. Two chains of bids take turns, and the person displaced in a chain bids next in it. Long chains end by
+/// successive shortest paths (Edmonds and Karp, 1972). The persons reached by a search that finds no free object are a
+/// Hall violator. Columns are reduced before (Jonker and Volgenant, 1987). Where the assignment has the least cost
+/// before the last phases, price refinement saves them (Goldberg and Kennedy, 1995). The rules are at the head of
+/// `rules.rt`.
 ///
 /// # Errors
 ///
@@ -201,19 +212,22 @@ pub fn solve_direct(
     solve_direct_watched(alloc, problem, limits, &mut Onward)
 }
 
-/// Solves a problem as [`solve_direct`] does, but from start prices, in a phase at the last eps: those of an old
-/// certificate, say. They are scaled costs, indexed by object, from 0 to 2^60; there may be more objects than persons.
+/// Solves a problem as [`solve_direct`] does, but from start prices (a warm start), in a phase at the last eps: those
+/// of an old certificate, say. They are scaled costs, indexed by object, from 0 to 2^60; there may be more objects than
+/// persons.
 ///
-/// Each person in order keeps an object that is within 1 of his best at the start prices, and that nobody before him
-/// has kept; the others bid. Where there are more objects than persons, what nobody has kept begins at price 0, and who
-/// has kept an object and would now lose more than 1 by it leaves it, and its price is 0 too. Where that doesn't end
-/// within a few passes over all persons, the run begins with no prices.
+/// Each person in order keeps an object that is within 1 of the best at the start prices, and that no person before has
+/// kept; the others bid. Where there are more objects than persons:
+///
+/// - An object that nobody has kept begins at price 0.
+/// - A person who has kept an object and would now lose more than 1 by it leaves it, and its price is 0 too.
+/// - Where that doesn't end within a few passes over all persons, the run begins with no prices.
 ///
 /// A limit on bids counts from the prices that are left then: clause `limit`. With as many objects as persons these are
 /// the start's.
 ///
-/// With as many objects as persons, where four bids a person don't give everybody an object, the run goes on from there
-/// as one without a start does, in phases.
+/// With as many objects as persons, four bids a person may not give each person an object. Then the run goes on from
+/// there in phases, as one without a start does.
 ///
 /// Takes two passes over the arcs for what persons keep, and with more objects than persons up to eight more; beside
 /// that the time and memory of [`solve_direct`].
@@ -235,16 +249,22 @@ pub fn solve_direct_from(
     solve_direct_watched_from(alloc, problem, limits, start, &mut Onward)
 }
 
-/// Solves a problem as [`solve_direct`] does, and asks between bids whether the run goes on: before each phase, and
-/// after as many bids of one as look at some four million arcs. Where it doesn't, the answer is a bracket with the
-/// reason `Bids`, or that there is no assignment; where it has said no more than before the call, a bracket stands only
-/// after a limit: clause `limit`. The bracket has the pairs of the last whole phase, if there was one. Who has said no
-/// isn't asked again; that somebody was asked at all, but for a full table or where there is no assignment, is clause
-/// `asked`. To ask takes O(persons) time, and that of `goes_on`.
+/// Solves a problem as [`solve_direct`] does, and asks a watch whether the run goes on: before each phase, and between
+/// bids, after about four million arcs scanned.
 ///
-/// Nothing is asked before the rows are laid out, within a search for a path, while a full table is searched, while
-/// prices are refined, which takes at most the time of some twice the bids of the phase before it, or after a no, while
-/// a bracket is made and checked.
+/// Where the watch says no, the answer is a bracket with the reason `Bids`, or that there is no assignment. Where it
+/// has said no only before the call, or not at all, a bracket is answered only after a limit: clause `limit`. The
+/// bracket has the pairs of the last whole phase, if there was one. A watch that has said no isn't asked again. That it
+/// was asked at all, but for a full table or where there is no assignment, is clause `asked`. To ask takes O(persons)
+/// time, and that of `goes_on`.
+///
+/// The watch is not asked:
+///
+/// - before the rows are built;
+/// - within a search for a path;
+/// - while a full table is searched;
+/// - while prices are refined, which takes at most the time of some twice the bids of the phase before it;
+/// - after a no, while a bracket is made and checked.
 ///
 /// # Errors
 ///

@@ -1,19 +1,18 @@
-//! The numbers by which a run is steered. Speed alone depends on them. How long candidate lists are stands in
-//! `auc_market`.
+//! The tuning numbers of a run. Only speed depends on them. The lengths of candidate lists are in `auc_market`.
 
 use auc_market::Pacing;
 
-/// By what eps is divided from phase to phase. From 4 to 16 whole runs are alike.
+/// Eps is divided by this from phase to phase. From 4 to 16 whole runs take about as long.
 pub(crate) const STEP: i64 = 8;
 
-/// Of how many persons the spread of a row is looked at, at least, where there are as many.
+/// The spread of at least this many rows is taken, where there are as many.
 pub(crate) const SAMPLE: u32 = 512;
 
-/// How many bids a person a phase may take for the last phase to be tried next: with fewer, not everybody was displaced
-/// even once.
+/// After a phase of fewer bids a person than this the last phase is tried next: not every person was displaced even
+/// once.
 pub(crate) const CALM: u64 = 2;
 
-/// Two phases take as many bids where these differ by less than such a part.
+/// Two phases take about as many bids where these differ by at most one part in this many.
 pub(crate) const STEADY: u64 = 10;
 
 /// When chains of bids search, and phases ask a watch.
@@ -25,15 +24,15 @@ pub(crate) const PACING: Pacing = Pacing {
     slice: 4_194_304,
 };
 
-/// In which part of the cost of 1 the next eps has to lie for prices to be refined: where costs are whole numbers, a
-/// phase at eight times as much has mostly found a least assignment.
+/// Prices are refined once the next eps is at most one unit of cost divided by this. On whole costs a phase at eight
+/// times as much has mostly found a least assignment.
 pub(crate) const PART: i64 = 80;
 
-/// How many looks a refinement may take for each bid of the phase before it.
+/// The number of scans that a refinement may make for each bid of the phase before it.
 pub(crate) const LOOKS: u64 = 2;
 
-/// How many bids a person a run from start prices may make before it begins as any other.
+/// The number of bids a person that a run from start prices may make before it begins as a run without a start.
 pub(crate) const STARTED: u64 = 4;
 
-/// How many looks the search of a full table may take for each entry, with as many objects as persons.
+/// The number of scans of each entry that the search of a full table may make, with as many objects as persons.
 pub(crate) const TABLE: u64 = 8;

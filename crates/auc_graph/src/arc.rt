@@ -4,11 +4,11 @@ ghost use Rattle.std.specs.Prelude.{◌≡◌, length};
 
 use std::marker::Model;
 
-/// An arc: this person may take this object at this cost, a cost of the file. C knows it by these three fields.
+/// An arc: this person may take this object at this cost, a cost of the file. C code reads these three fields.
 #[repr(C)]
 #[derive(Clone, Copy, Debug, PartialEq, Eq)]
 pub struct Arc {
-    // The widest field stands first: so an arc takes 16 bytes.
+    // The widest field comes first, so an arc takes 16 bytes.
     pub cost: i64,
     pub person: u32,
     pub object: u32,
@@ -63,7 +63,7 @@ impl ArcList {
         self.objects
     }
 
-    /// The arcs, in the order of the text. One that was listed twice stands twice.
+    /// The arcs, in the order of the text. One that was listed twice is there twice.
     pub fn arcs(&self) -> &[Arc]
         ensures arcs { result.now ≡ self.now.arcs }
         ensures problem { IsProblem self.now }

@@ -10,7 +10,7 @@ ghost use Rattle.auc_graph.specs.Dual.{EachHasArc, IsLower, arc_value, dual, is_
 use crate::arc::{Arc, ArcList};
 use std::alloc::{AllocError, Global};
 
-/// The value of an arc: its scaled cost and the price of its object.
+/// The value of an arc: its scaled cost plus the price of its object.
 fn value_of(scale: u32, prices: &[i64], arc: Arc) -> i64
     requires scale { scale ≤ MOST_PERSONS + 1 }
     requires object { arc.object < length prices.now }
@@ -22,7 +22,7 @@ fn value_of(scale: u32, prices: &[i64], arc: Arc) -> i64
     i64::from(scale) * arc.cost + prices[arc.object as usize]
 }
 
-/// The least value of each person's arcs, and the greatest number for one who has none.
+/// The least value of each person's arcs; the greatest number for a person who has none.
 fn least_values(
     alloc: Global,
     persons: u32,
@@ -65,8 +65,8 @@ fn total_of(numbers: &[i64]) -> i128
 /// the sum of all prices. No assignment costs less, scaled.
 ///
 /// Prices and the bound are scaled costs, costs of the file times persons + 1; the value of an arc is its scaled cost
-/// and the price of its object. Takes one pass over the arcs, O(arcs + persons + objects) time, and 8 bytes of memory a
-/// person. The bound is the objective of the dual problem (Bertsekas, 1988).
+/// plus the price of its object. Takes one pass over the arcs, O(arcs + persons + objects) time, and 8 bytes of memory
+/// a person. The bound is the objective of the dual problem (Bertsekas, 1988).
 ///
 /// # Errors
 ///
@@ -95,7 +95,7 @@ pub fn is_lower(scale: u32, bound: i128, lower: i64) -> bool
 }
 
 /// The least cost of the file that reaches this bound, a scaled cost: the bound divided by the scale, rounded up, so -7
-/// thirds give -2. Of the dual bound of prices from 0 to 2^61, of which no more than persons are above 0, it is an i64
+/// thirds give -2. For the dual bound of prices from 0 to 2^61, of which no more than persons are above 0, it is an i64
 /// wherever there is an assignment ([`bounds_fit`](crate::bounds_fit)). O(1).
 pub fn lower_of(scale: u32, bound: i128) -> i128
     requires some { 0 < scale }

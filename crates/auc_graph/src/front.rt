@@ -1,4 +1,4 @@
-//! Numbers at the front of a text that goes on.
+//! Numbers at the front of a text that goes on after them.
 
 ghost use Rattle.std.specs.Prelude.{◌≡◌, ◌+◌, ◌-◌, ◌≤◌, ◌<◌, ◌∷◌, ◌++◌, List, ℕ, true, false, length, drop, pos, neg_ℤ, ◌≤ℤ◌, IfSome, IfNone};
 ghost use Rattle.std.specs.Char.{is_ascii_digit};
@@ -18,8 +18,7 @@ pub(crate) const SHORT: usize = 8;
 /// One more than the digits of the greatest cost.
 const LONG: usize = 11;
 
-/// The value of a digit; what another byte gives is above nine. Of 32 bits, so that the sum that takes it needs no
-/// widening.
+/// The value of a digit; above nine for any other byte. Of 32 bits, so that the sum that takes it needs no widening.
 #[inline(always)]
 fn digit_of(byte: u8) -> u32
     ensures digit { result ≤ 9 → (is_ascii_digit byte ≡ true) × (byte ≡ result + 48) }
@@ -31,9 +30,9 @@ fn digit_of(byte: u8) -> u32
 /// The separators that may stand after a short number.
 #[derive(Clone, Copy)]
 pub(crate) enum Separators {
-    /// A space or a line feed: nearly all files have no others, and to ask for these alone is quickest.
+    /// A space or a line feed: nearly all files have no others, and to test for these alone is fastest.
     Usual,
-    /// Each byte that may stand between two tokens.
+    /// Each byte that may separate two tokens.
     All,
 }
 
@@ -50,7 +49,7 @@ fn is_among(separators: Separators, byte: u8) -> bool
 }
 
 /// The value and the length of the token at the front, where it is one to seven digits and such a separator follows.
-/// The compiler writes this loop out, so that each of its tests is guessed by its own history.
+/// The compiler unrolls this loop, so that each of its tests is predicted by its own history.
 #[inline(always)]
 pub(crate) fn short_number_at(separators: Separators, bytes: &[u8; SHORT]) -> Option<(u32, usize)>
     ensures { IfSome result (λ x. (x.1 < SHORT) × (x.0 < 10000000) × IsPlainToken bytes.now x.0 x.1) }
@@ -135,7 +134,7 @@ fn long_cost(bytes: &[u8]) -> Option<(i64, &[u8])>
     ))
 }
 
-/// The same. Most costs are short and have no sign, so these go by the loop of short numbers.
+/// The same. Most costs are short and have no sign, so these are read by the loop of short numbers.
 #[inline(always)]
 pub(crate) fn cost_at(bytes: &[u8]) -> Option<(i64, &[u8])>
     ensures found { IfSome result (λ x. (more : List ℕ) → numbers (bytes.now ++ more) ≡ Value x.0 ∷ numbers (x.1.now ++ more)) }
@@ -150,7 +149,7 @@ pub(crate) fn cost_at(bytes: &[u8]) -> Option<(i64, &[u8])>
     }
 }
 
-/// The number at the front, where a separator stands after it, and the text after that.
+/// The number at the front, where a separator follows it, and the text after that.
 #[cold]
 #[inline(never)]
 fn any_whole(bytes: &[u8]) -> Option<(Number, &[u8])>
@@ -170,8 +169,8 @@ fn any_whole(bytes: &[u8]) -> Option<(Number, &[u8])>
     }
 }
 
-/// The number at the front, where a separator stands after it, and the text after that. Nearly all numbers of a file
-/// are short, so these are read by a loop that knows where it ends.
+/// The number at the front, where a separator follows it, and the text after that. Nearly all numbers of a file are
+/// short, so these are read by a loop of fixed length.
 #[inline(always)]
 pub(crate) fn next_whole(bytes: &[u8]) -> Option<(Number, &[u8])>
     ensures found { IfSome result (λ x. (more : List ℕ) → numbers (bytes.now ++ more) ≡ x.0 ∷ numbers (x.1.now ++ more)) }

@@ -8,7 +8,7 @@ use crate::arc::{Arc, ArcList};
 use crate::limits::{MOST_ARCS, MOST_COST, MOST_OBJECTS, MOST_PERSONS};
 use crate::list_faults::ListFault;
 
-/// The number of objects that is meant, where 0 stands for as many as persons.
+/// The number of objects, where 0 means as many as persons.
 pub fn objects_or(wanted: u32, persons: u32) -> u32
     ensures { result ≡ objects_or wanted persons }
 {
@@ -47,9 +47,11 @@ fn first_fault(persons: u32, objects: u32, arcs: &[Arc]) -> Option<ListFault>
     None
 }
 
-/// The first fault of so many persons, so many objects and these arcs, or None where they are a problem; `objects` 0
-/// stands for as many as persons. Looked for in the order in which a text of them would be read: the number of persons,
-/// that of objects, and then each arc: whether it is one too many, its person, its object, its cost. Takes O(arcs)
+/// The first fault of these numbers of persons and objects and these arcs, or None where they are a problem; `objects`
+/// 0 means as many as persons.
+///
+/// Faults are searched for in the order in which a text would be read: the number of persons, that of objects, and then
+/// each arc. Of an arc it is first whether it is one too many, then its person, its object and its cost. Takes O(arcs)
 /// time.
 pub fn list_fault(persons: u32, objects: u32, arcs: &[Arc]) -> Option<ListFault>
     ensures exact { result ≡ list_fault persons objects arcs.now }
@@ -66,9 +68,9 @@ pub fn list_fault(persons: u32, objects: u32, arcs: &[Arc]) -> Option<ListFault>
 }
 
 impl ArcList {
-    /// The problem of so many persons, so many objects and these arcs, in their order; `objects` 0 stands for as many
-    /// as persons. Persons and objects are numbered from 0. The same pair listed twice is two arcs, and no arc at all
-    /// is a lawful list. Takes O(arcs) time and no memory.
+    /// The problem of these numbers of persons and objects and these arcs, in their order; `objects` 0 means as many as
+    /// persons. Persons and objects are numbered from 0. The same pair listed twice is two arcs, and no arc at all is a
+    /// lawful list. Takes O(arcs) time and no memory.
     ///
     /// # Errors
     ///

@@ -1,5 +1,5 @@
-//! Where the rows lie, of arcs that stand in the order of their persons, and the spread of their costs: one pass over
-//! them, each put after the others.
+//! The layout of the rows, for arcs in the order of their persons, and the spread of their costs: one pass over the
+//! arcs, each appended to the others.
 
 ghost use Rattle.std.specs.Prelude.{◌≡◌, ◌<◌, ◌≤◌, ◌+◌, ◌*◌, ◌^◌, ◌≤ℤ◌, pos, neg_ℤ, ℕ, length, slice_index, slice_index_or, slice_range, vec_capacity, All, IfOk, IfSome};
 ghost use Rattle.auc_graph.specs.Row.{row, IsSpread};
@@ -12,7 +12,7 @@ use crate::limits::{MOST_ARCS, MOST_PERSONS};
 use crate::rows::RowArc;
 use std::alloc::{AllocError, Global};
 
-/// Begins the rows up to one of this number at a place; those that are begun already stay.
+/// Sets the start of the rows up to the one of this number to a place; those that have one keep it.
 #[inline(always)]
 fn begin_rows(offsets: &mut Vec<usize>, len: usize, at: usize)
     requires few { length offsets.old.items ≤ len }
@@ -26,7 +26,7 @@ fn begin_rows(offsets: &mut Vec<usize>, len: usize, at: usize)
     }
 }
 
-/// Where the rows lie, where there are arcs and they stand in the order of their persons.
+/// The layout of the rows, where there are arcs and they are in the order of their persons.
 pub(crate) fn rows_in_order(
     alloc: Global,
     persons: u32,
@@ -45,7 +45,7 @@ pub(crate) fn rows_in_order(
     ensures low { IfOk result (λ r. IfSome r (λ x. pos 0 ≤ℤ x.spread)) }
     ensures high { IfOk result (λ r. IfSome r (λ x. x.spread ≤ℤ pos (2 * 10 ^ 9))) }
 {
-    // With no arc there is no first cost to begin with, and nothing to be gained here.
+    // With no arc there is no first cost, and nothing to gain here.
     let Some(first) = arcs.first() else {
         return Ok(None);
     };
@@ -55,7 +55,7 @@ pub(crate) fn rows_in_order(
     let mut placed = Vec::with_capacity(alloc, arcs.len())?;
     for (i, arc) in arcs.iter().enumerate() {
         let before = arc.person as usize + 1;
-        // One test serves nearly every arc: it is of the same person as the one in front of it.
+        // One test serves nearly every arc: it has the same person as the arc before it.
         if before != offsets.len() {
             if before < offsets.len() {
                 return Ok(None);

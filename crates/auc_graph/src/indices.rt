@@ -26,7 +26,7 @@ impl Indices {
         Indices { indices }
     }
 
-    /// The numbers, given back.
+    /// Returns the numbers.
     pub fn into_vec(self) -> Vec<u32>
         ensures { result.items ≡ self }
     {

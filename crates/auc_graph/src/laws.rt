@@ -12,7 +12,7 @@ ghost use Rattle.auc_graph.specs.Dual.{scale_of, dual, is_lower, IsLower, IsSlac
 
 use crate::limits::{MOST_ARCS, MOST_COST, MOST_OBJECTS, MOST_PERSONS, MOST_PRICE, MOST_READS};
 
-/// Weak duality: at prices that aren't negative no assignment costs, scaled, less than the dual bound; so none costs
+/// Weak duality: at prices that aren't negative no assignment costs, scaled, less than the dual bound. So none costs
 /// less than the least number that reaches this bound when scaled. There may be more objects than persons.
 pub fn prices_bound_costs()
     ensures scaled { (p : Problem) (prices : List ℤ) (choice : List Arc) → All (IsWithin p.persons p.objects) p.arcs
@@ -24,9 +24,9 @@ pub fn prices_bound_costs()
 {}
 
 /// The least cost that a dual bound allows: there is one at most, and a test without division finds it. Where there is
-/// an assignment, it is at most the greatest cost times the persons, and below the negative of that by no more than all
-/// prices together, scaled down (`top`). So where no more objects than persons have a price, each from 0 to 2^61, it
-/// has 64 bits.
+/// an assignment, it is at most the greatest cost times the persons. It is below the negative of that by no more than
+/// all prices together, scaled down (`top`). So where no more objects than persons have a price above 0, each at most
+/// 2^61, it has 64 bits.
 pub fn bounds_fit()
     ensures one { (scale : ℕ) (d lower other : ℤ) → IsLower scale d lower → IsLower scale d other → lower ≡ other }
     ensures tested { (n : ℕ) (d lower : ℤ) → is_lower (n + 1) d lower ≡ true → IsLower (n + 1) d lower }
@@ -44,8 +44,9 @@ pub fn bounds_fit()
         → FitsSigned w64 lower }
 {}
 
-/// An assignment costs least where at prices that aren't negative no arc of a person is better than his chosen one by
-/// more than 1, and no object that nobody takes has a price. There may be more objects than persons.
+/// An assignment has the least cost if there are prices that aren't negative with two properties. No arc of a person is
+/// better than the chosen one by more than 1, and each object that nobody takes has price 0. There may be more objects
+/// than persons.
 pub fn slack_right_costs_least()
     ensures { (p : Problem) (prices : List ℤ) (choice : List Arc) → All (IsWithin p.persons p.objects) p.arcs
         → length prices ≡ p.objects → AreNotNegative prices → IsAssignment p choice
@@ -59,22 +60,23 @@ pub fn assignments_leave_no_price()
         → IsSquare p → length prices ≡ p.objects → IsAssignment p choice → IsNoPriceLeft prices choice }
 {}
 
-/// No more objects than persons have a price where there are no more objects, or where an assignment leaves no price.
+/// No more objects than persons have a price above 0 where there are no more objects than persons, or where each object
+/// that an assignment leaves has price 0.
 pub fn prices_are_few()
     ensures square { (p : Problem) (prices : List ℤ) → IsSquare p → length prices ≡ p.objects → AreFewPriced p prices }
     ensures assigned { (p : Problem) (prices : List ℤ) (choice : List Arc) → IsAssignment p choice
         → IsNoPriceLeft prices choice → AreFewPriced p prices }
 {}
 
-/// What a text reads as has the objects that are wanted: as many as persons where this is 0, else just so many, which
-/// are no fewer.
+/// The problem of a text has the wanted number of objects: as many as persons where this is 0, else this number, which
+/// is not below that of the persons.
 pub fn wanted_objects_are_read()
     ensures objects { (limit wanted : ℕ) (text : List ℕ) (p : Problem) → reading limit wanted text ≡ Ok p
         → objects_for wanted p.persons ≡ Ok p.objects }
     ensures square { (limit : ℕ) (text : List ℕ) (p : Problem) → reading limit 0 text ≡ Ok p → IsSquare p }
 {}
 
-/// Where there is an assignment each person has an arc, as the dual bound wants it.
+/// Where there is an assignment each person has an arc, as the dual bound needs it.
 pub fn assigned_persons_have_arcs()
     ensures { (p : Problem) (choice : List Arc) → IsAssignment p choice → EachHasArc p }
 {}

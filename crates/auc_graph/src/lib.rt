@@ -1,7 +1,10 @@
-//! Sparse assignment problems and their reader: a list of arcs is just what the text reads as.
+//! Sparse assignment problems, and their reader.
 //!
 //! Reading takes one pass over the bytes of the text, whole or piece by piece, with no copy of it, and 16 bytes of
-//! memory an arc. Persons, objects, tokens and arcs are numbered from 0.
+//! memory an arc.
+//!
+//! Proved: the list of arcs is exactly the problem that the text reads as. Persons, objects, tokens and arcs are
+//! numbered from 0.
 #![tactic(auto)]
 
 mod arc;

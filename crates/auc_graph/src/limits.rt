@@ -1,15 +1,15 @@
 //! The limits of a problem.
 
-/// The most persons of a problem.
+/// The greatest number of persons of a problem.
 pub const MOST_PERSONS: u32 = 10_000;
 
-/// The most objects of a problem, of which there are at least as many as persons.
+/// The greatest number of objects of a problem, which has at least as many as persons.
 pub const MOST_OBJECTS: u32 = 20_000;
 
-/// The most arcs of a problem.
+/// The greatest number of arcs of a problem.
 pub const MOST_ARCS: u32 = 33_554_432;
 
-/// The most calls of `read` that reach the end of an input.
+/// The greatest number of calls of `read` that reach the end of an input.
 pub const MOST_READS: u32 = 1_073_741_824;
 
 /// The greatest magnitude of a cost.

@@ -1,6 +1,6 @@
-//! Lines of two short numbers and a cost at the front of a text that goes on.
+//! Lines of two short numbers and a cost at the front of a text that goes on after them.
 //!
-//! Most files list the arcs of a person line by line, so the person of a line is known by comparing its first bytes
+//! Most files list the arcs of a person line by line, so the person of a line is found by comparing its first bytes
 //! with those of the line before.
 
 ghost use Rattle.std.specs.Prelude.{◌≡◌, ◌+◌, ◌-◌, ◌<◌, ◌∷◌, ◌++◌, List, ℕ, length, drop, pos, IfSome};
@@ -14,8 +14,8 @@ use crate::arc::Arc;
 use crate::front::{SHORT, Separators, cost_at, short_number, short_number_at};
 use crate::tokens::from_place;
 
-/// The bytes of the longest line of three short numbers: the last may have a sign. A longer cost asks for more by
-/// itself.
+/// The length in bytes of the longest line of three short numbers: the last may have a sign. A longer cost tests for
+/// more by itself.
 const LINE: usize = 3 * SHORT + 1;
 
 /// How a person is written at the front of a line: the digits of the number and a separator.
@@ -23,7 +23,7 @@ const LINE: usize = 3 * SHORT + 1;
 pub struct WrittenPerson {
     /// The bytes of a word that the digits and the separator take.
     pub mask: u64,
-    /// These bytes, of a word that has the first byte of the line lowest.
+    /// These bytes, in a word whose lowest byte is the first byte of the line.
     pub word: u64,
     pub digits: usize,
     pub person: u32,
@@ -58,7 +58,7 @@ pub(crate) fn person_at(persons: u32, bytes: &[u8]) -> Option<WrittenPerson>
     })
 }
 
-/// The text after the person and the separator, where the person is written so.
+/// The text after the person and the separator, where the front is spelled like this.
 #[inline(always)]
 fn behind_person(written: WrittenPerson, bytes: &[u8]) -> Option<&[u8]>
     requires { IsWritten written }
@@ -74,8 +74,8 @@ fn behind_person(written: WrittenPerson, bytes: &[u8]) -> Option<&[u8]>
     Some(from_place(bytes, written.digits + 1))
 }
 
-/// The arc at the front and the text after it, where the person is written so, the object is a short number, the cost
-/// one of up to ten digits with or without a sign, and both are in range.
+/// The arc at the front and the text after it, where the person is spelled like this. The object is a short number, the
+/// cost one of up to ten digits with or without a sign, and both are in range.
 #[inline(always)]
 pub(crate) fn short_arc(written: WrittenPerson, objects: u32, bytes: &[u8]) -> Option<(Arc, &[u8])>
     requires { IsWritten written }

@@ -11,13 +11,13 @@ pub enum ListFault {
     /// The number of objects is below that of the persons or above 20,000.
     #[error("the number of objects is out of range")]
     Objects,
-    /// There are more than 33,554,432 arcs, and none of so many is at fault.
+    /// There are more than 33,554,432 arcs, and none of the first 33,554,432 has a fault.
     #[error("there are too many arcs")]
     TooManyArcs,
-    /// The person of this arc is none of the problem.
+    /// The person of this arc is not one of the problem.
     #[error("the person of arc {arc} is out of range")]
     Person { arc: u32 },
-    /// The object of this arc is none of the problem.
+    /// The object of this arc is not one of the problem.
     #[error("the object of arc {arc} is out of range")]
     Object { arc: u32 },
     /// The cost of this arc is too great or too small.

@@ -16,8 +16,8 @@ use crate::stage::Stage;
 use crate::tokens::separators_len;
 use crate::unfinished::{MOST_KEPT, keep};
 
-/// The text after the arcs of two short numbers and a cost each whose person is written so, as many as there is room
-/// for. They are put after the others.
+/// Reads arcs of two short numbers and a cost each, whose person is spelled like this, as many as there is room for,
+/// and appends them. Returns the text after them.
 #[inline(always)]
 fn behind_row<'a>(
     limit: u32,
@@ -55,8 +55,8 @@ fn behind_row<'a>(
     Ok(rest)
 }
 
-/// The text after the arcs of two short numbers and a cost each, which are put after the others. A function of its own,
-/// so that the loop of a row has the registers.
+/// Reads arcs of two short numbers and a cost each, and appends them. Returns the text after them. A function of its
+/// own, so that the loop of a row has the registers.
 #[inline(never)]
 fn behind_short_arcs<'a>(
     limit: u32,
@@ -86,8 +86,8 @@ fn behind_short_arcs<'a>(
     Ok(rest)
 }
 
-/// The stage after all numbers of a piece that a separator ends, and how many bytes the unfinished token after them
-/// has.
+/// The stage after all numbers of a piece that a separator ends, and the length in bytes of the unfinished token after
+/// them.
 pub(crate) fn stage_behind(
     limit: u32,
     first: Stage,
@@ -117,7 +117,8 @@ pub(crate) fn stage_behind(
     Ok((stage, rest.len() - separators_len(rest)))
 }
 
-/// What is known after so many bytes of a piece, and how many bytes are kept at its front. A fault stays the first one.
+/// The state after these bytes of a piece, and the number of bytes that are kept at its front. A fault stays the first
+/// one.
 pub(crate) fn known_behind(
     limit: u32,
     before: Result<Stage, ReadError>,
@@ -146,7 +147,7 @@ pub(crate) fn known_behind(
     }
 }
 
-/// What a text reads as that ends after this token.
+/// The problem of a text that ends after this token.
 pub(crate) fn problem_behind(
     limit: u32,
     stage: Stage,
@@ -167,7 +168,7 @@ pub(crate) fn problem_behind(
     last.finished(limit, arcs)
 }
 
-/// Whether memory ran out.
+/// Whether memory was refused.
 pub(crate) fn is_want_of_memory(known: &Result<Stage, ReadError>) -> bool
     ensures want { result ≡ true → known.now ≡ Err ReadError.NoMemory }
     ensures other { result ≡ false → known.now ≢ Err ReadError.NoMemory }

@@ -15,25 +15,25 @@ pub enum ReadError {
     /// This token is no number.
     #[error("token {token} is no number")]
     BadNumber { token: u64 },
-    /// The first token is no number of persons.
+    /// The first token is not in the range of the number of persons.
     #[error("the number of persons is out of range")]
     CountRange,
-    /// A token stands after the last arc that is allowed.
+    /// A token comes after the last arc that is allowed.
     #[error("there are too many arcs")]
     TooManyArcs,
-    /// The person of this arc is none of the problem.
+    /// The person of this arc is not one of the problem.
     #[error("the person of arc {arc} is out of range")]
     PersonRange { arc: u64 },
-    /// The object of this arc is none of the problem.
+    /// The object of this arc is not one of the problem.
     #[error("the object of arc {arc} is out of range")]
     ObjectRange { arc: u64 },
     /// The cost of this arc is too great or too small.
     #[error("the cost of arc {arc} is out of range")]
     CostRange { arc: u64 },
-    /// The text, which has so many tokens, ends inside an arc.
+    /// The text, which has this many tokens, ends inside an arc.
     #[error("the text ends inside an arc, behind {tokens} tokens")]
     Cut { tokens: u64 },
-    /// Memory ran out.
+    /// Memory was refused.
     #[error("out of memory")]
     NoMemory,
     /// A read failed, or was interrupted.
@@ -42,7 +42,7 @@ pub enum ReadError {
     /// As many reads as are allowed did not reach the end.
     #[error("too many reads")]
     TooManyReads,
-    /// The first token is a number of persons, and above the number of objects that is wanted.
+    /// The first token is a number of persons, and above the wanted number of objects.
     #[error("there are fewer objects than persons")]
     TooFewObjects,
 }

@@ -16,11 +16,11 @@ use crate::unfinished::MOST_KEPT;
 use std::alloc::Global;
 use std::io::Read;
 
-/// The most bytes that are taken of a reader at a time.
+/// The greatest number of bytes that are taken of a reader at a time.
 const PIECE: usize = 65_536;
 
-/// How much is read at most: so many arcs, and from a reader by so many calls of `read`; and how many objects the
-/// problem has.
+/// The limits of reading: the number of arcs, and of calls of `read` of a reader. And the number of objects of the
+/// problem.
 #[derive(Clone, Copy, Debug, PartialEq, Eq)]
 pub struct ReadLimits {
     pub arcs: u32,
@@ -30,7 +30,7 @@ pub struct ReadLimits {
 }
 
 impl ReadLimits {
-    /// The most that any caller may ask for, with as many objects as persons.
+    /// The greatest limits that a caller may ask for, with as many objects as persons.
     pub fn usual() -> Self
         ensures arcs { result.arcs ≡ MOST_ARCS }
         ensures reads { result.reads ≡ MOST_READS }
@@ -46,19 +46,20 @@ impl ReadLimits {
 
 /// The problem that a text reads as, or the first fault in the order of the text.
 ///
-/// Bytes 9 to 13, 26 and 32 part the text into tokens. The first token is the number of persons; each three tokens
-/// after it are an arc: person, object, cost. In the text persons and objects are numbered from 1. The same pair listed
-/// twice is two arcs, and no arc at all is a lawful list.
+/// Bytes 9 to 13, 26 and 32 separate the tokens of the text. The first token is the number of persons; each three
+/// tokens after it are an arc: person, object, cost. In the text persons and objects are numbered from 1. The same pair
+/// listed twice is two arcs, and no arc at all is a lawful list.
 ///
-/// `limits.objects` is the number of objects, of which there are as many as persons where it is 0; `limits.arcs` is the
-/// most arcs that are read; `limits.reads` plays no part here.
+/// - `limits.objects` is the number of objects; 0 means as many as persons.
+/// - `limits.arcs` is the greatest number of arcs that are read.
+/// - `limits.reads` is ignored here.
 ///
 /// # Errors
 ///
-/// At a token [`ReadError::TooManyArcs`] comes first, then [`ReadError::BadNumber`], then the range of the number, and
-/// at the first token then [`ReadError::TooFewObjects`], where more persons than objects are told; [`ReadError::Cut`]
-/// and [`ReadError::Empty`] stand at the end of the text. [`ReadError::NoMemory`] may stand in place of any other
-/// answer, where memory was refused. No text is a [`ReadError::ReadFault`] or has too many reads.
+/// At a token [`ReadError::TooManyArcs`] comes first, then [`ReadError::BadNumber`], then the range of the number. At
+/// the first token [`ReadError::TooFewObjects`] comes after these, where there are more persons than objects.
+/// [`ReadError::Cut`] and [`ReadError::Empty`] come at the end of the text. [`ReadError::NoMemory`] may come in place
+/// of any other answer, where memory was refused. No text is a [`ReadError::ReadFault`] or has too many reads.
 ///
 /// Takes O(length) time and 16 bytes of memory an arc.
 pub fn read_arcs(alloc: Global, bytes: &[u8], limits: ReadLimits) -> Result<ArcList, ReadError>
@@ -73,22 +74,22 @@ pub fn read_arcs(alloc: Global, bytes: &[u8], limits: ReadLimits) -> Result<ArcL
     problem_behind(limits.arcs, stage, arcs, token)
 }
 
-/// The problem that the text of a reader reads as, as [`read_arcs`] says, or the first fault; no more of the text is
+/// The problem that the text of a reader reads as, as [`read_arcs`] says, or the first fault. No more of the text is
 /// kept than 32 bytes of a token that isn't finished.
 ///
-/// `limits.objects` is the number of objects, `limits.arcs` the most arcs that are read, and `limits.reads` the most
-/// calls of `read`, the one that finds the end among them. A read that gives no bytes is the end; the reader is read up
-/// to there, also where a fault of the text was seen before.
+/// `limits.objects` is the number of objects, `limits.arcs` the greatest number of arcs that are read, and
+/// `limits.reads` that of calls of `read`, the one that finds the end among them. A read that gives no bytes is the
+/// end; the reader is read up to there, also where a fault of the text was seen before.
 ///
 /// # Errors
 ///
 /// [`ReadError::ReadFault`] at the first read that fails, also by an interrupt: no read is tried again.
-/// [`ReadError::TooManyReads`] where so many reads gave bytes each. [`ReadError::NoMemory`] at once, where memory was
-/// refused. Each of these stands whatever fault of the text was seen before. Else the answer is that of [`read_arcs`]
-/// on the whole text.
+/// [`ReadError::TooManyReads`] where `limits.reads` reads gave bytes each. [`ReadError::NoMemory`] at once, where
+/// memory was refused. Each of these comes whatever fault of the text was seen before. Else the answer is that of
+/// [`read_arcs`] on the whole text.
 ///
-/// Takes O(length) time, 16 bytes of memory an arc, and 64 kB for a piece of the text, which are asked for before the
-/// first read: none of them lie on the stack.
+/// Takes O(length) time, 16 bytes of memory an arc, and 64 kB for a piece of the text. These are asked for before the
+/// first read: none of them is on the stack.
 pub fn read_arcs_from<R: Read>(
     alloc: Global,
     reader: &mut R,
@@ -115,7 +116,7 @@ fn read_by_pieces<R: Read>(
 ) -> Result<ArcList, ReadError>
     requires arcs { limits.arcs ≤ MOST_ARCS }
     requires objects { limits.objects ≤ MOST_OBJECTS }
-    // What is kept of an unfinished token leaves room for a byte more.
+    // The bytes that are kept of an unfinished token leave room for one more byte.
     requires room { MOST_KEPT < length piece.old }
     ensures { (text : List ℕ) × Consumes (R.remaining reader.old) (R.remaining reader.new) text
         × IsRead limits (R.remaining reader.new) text result }

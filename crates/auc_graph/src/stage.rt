@@ -1,4 +1,4 @@
-//! Reading one number after another: what the next one is.
+//! Reads one number after another: the kind of the next one.
 
 ghost use Rattle.std.specs.Prelude.{◌≡◌, ◌≤◌, ◌<◌, ◌⊎◌, ℕ, List, [], neg_ℤ, ◌≤ℤ◌, IfOk};
 ghost use Rattle.auc_graph.specs.declared.stage.Stage.TheVariants.{AtCount, AtPerson, AtObject};
@@ -11,10 +11,10 @@ use crate::limits::{MOST_ARCS, MOST_COST, MOST_OBJECTS, MOST_PERSONS};
 use crate::number::Number;
 use crate::read_error::ReadError;
 
-/// What the next number of a text is, and what is known by then.
+/// The kind of the next number of a text, and the state by then.
 #[derive(Clone, Copy, Debug, PartialEq, Eq)]
 pub enum Stage {
-    /// The number of persons; so many objects are wanted, or as many as persons where this is 0.
+    /// The number of persons; this many objects are wanted, or as many as persons where this is 0.
     AtCount {
         wanted: u32,
     },
@@ -73,7 +73,7 @@ fn cost_of(number: Number, token: u64, range: ReadError) -> Result<i64, ReadErro
     within_of(number, -MOST_COST, MOST_COST, token, range)
 }
 
-/// The number of objects beside so many persons.
+/// The number of objects beside this number of persons.
 fn objects_of(wanted: u32, persons: u32) -> Result<u32, ReadError>
     ensures exact { result ≡ objects_for wanted persons }
     ensures enough { IfOk result (λ objects. persons ≤ objects) }
@@ -162,7 +162,7 @@ fn after_object(
 }
 
 impl Stage {
-    /// The stage after the next number. Where this ends an arc, the arc is put after the others.
+    /// The stage after the next number. Where this ends an arc, the arc is appended to the others.
     #[inline(always)]
     #[tactic(auto, unfolding(crate::specs::Reading::step_at))]
     pub(crate) fn after(
@@ -206,7 +206,7 @@ impl Stage {
         }
     }
 
-    /// What a text reads as that ends here.
+    /// The problem of a text that ends here.
     #[tactic(auto, unfolding(crate::specs::Reading::finish_at))]
     pub(crate) fn finished(self, limit: u32, arcs: Vec<Arc>) -> Result<ArcList, ReadError>
         requires few { limit ≤ MOST_ARCS }

@@ -19,7 +19,7 @@ pub(crate) fn is_separator_byte(byte: u8) -> bool
     matches!(byte, 9..=13 | 26 | 32)
 }
 
-/// What stands from a place on.
+/// The text from a place on.
 #[inline(always)]
 pub(crate) fn from_place(bytes: &[u8], place: usize) -> &[u8]
     requires { place ≤ length bytes.now }
@@ -28,7 +28,7 @@ pub(crate) fn from_place(bytes: &[u8], place: usize) -> &[u8]
     &bytes[place..]
 }
 
-/// How many separators stand at the front.
+/// The number of separators at the front.
 #[inline(always)]
 pub(crate) fn separators_len(bytes: &[u8]) -> usize
     ensures len { result ≡ prefix_len is_separator bytes.now }
@@ -42,7 +42,7 @@ pub(crate) fn separators_len(bytes: &[u8]) -> usize
     bytes.len()
 }
 
-/// How many bytes stand before the first separator.
+/// The number of bytes before the first separator.
 #[inline(always)]
 pub(crate) fn token_len(bytes: &[u8]) -> usize
     ensures len { result ≡ position_or_len is_separator bytes.now }
@@ -56,8 +56,8 @@ pub(crate) fn token_len(bytes: &[u8]) -> usize
     bytes.len()
 }
 
-/// The first token from a place of the text on. Where the place lies inside a token, that is the rest of it; at or
-/// past the end there is none. Takes O(bytes looked at) time.
+/// The first token from a place of the text on. Where the place is inside a token, that is the rest of it; at or past
+/// the end there is none. Takes O(bytes read) time.
 pub fn token_at(bytes: &[u8], from: usize) -> Option<Token>
     ensures found { IfSome result (λ token. IsFirstToken bytes.now from token.start token.end) }
     ensures tokens { IfSome result

@@ -1,4 +1,4 @@
-//! Tokens that a piece of a text cuts: what is kept of them.
+//! Tokens that the end of a piece of a text cuts: what is kept of them.
 
 ghost use Rattle.std.specs.Prelude.{◌≡◌, ◌≤◌, ◌<◌, ◌++◌, List, ℕ, length, take, slice_range};
 ghost use Rattle.auc_graph.specs.Numbers.{numbers};
@@ -8,7 +8,7 @@ use crate::number::{digits_of, point_len, split_sign_of};
 use crate::tokens::from_place;
 use itoa::Buffer;
 
-/// The most bytes that are kept of an unfinished token.
+/// The greatest number of bytes that are kept of an unfinished token.
 pub(crate) const MOST_KEPT: usize = 32;
 
 /// What is known of an unfinished token that is too long to be kept.
@@ -16,8 +16,7 @@ pub(crate) const MOST_KEPT: usize = 32;
 pub enum Unfinished {
     /// It is no number, however it ends.
     NoNumber,
-    /// A sign, and digits of this value, where one above the largest stands for all above it; perhaps a point and
-    /// zeros.
+    /// A sign, and digits of this value, where one above the largest means all above it; perhaps a point and zeros.
     Digits {
         negative: bool,
         value: u64,
@@ -48,7 +47,7 @@ fn unfinished_of(token: &[u8]) -> Unfinished
     }
 }
 
-/// Puts the short text of an unfinished token to the front, and gives its length.
+/// Moves the short text of an unfinished token to the front, and returns its length.
 #[cold]
 #[inline(never)]
 fn spell(piece: &mut [u8], unfinished: Unfinished) -> usize
@@ -83,8 +82,8 @@ fn spell(piece: &mut [u8], unfinished: Unfinished) -> usize
     }
 }
 
-/// Puts the unfinished token that stands between two places to the front, or a short text that reads alike however the
-/// token goes on, and gives the length.
+/// Moves the unfinished token between two places to the front, or a short text that reads alike however the token goes
+/// on, and returns the length.
 pub(crate) fn keep(piece: &mut [u8], start: usize, end: usize) -> usize
     requires places { (start ≤ end) × (end ≤ length piece.old) }
     requires room { MOST_KEPT ≤ length piece.old }

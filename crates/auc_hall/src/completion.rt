@@ -33,7 +33,7 @@ fn numbers_of(alloc: Global, choice: &[Option<RowArc>]) -> Result<Vec<u32>, Allo
 }
 
 /// `complete`, over the arcs of the persons and the holders of the objects. No object is marked in `seen`, and no arc
-/// was looked at.
+/// was scanned.
 fn complete_parts(
     alloc: Global,
     rows: &Rows,
@@ -67,12 +67,14 @@ fn complete_parts(
     Ok(Matching::Full(Indices::new(numbers_of(alloc, choice)?)))
 }
 
-/// Gives an arc to each person who has none, or names persons who know too few objects.
+/// Gives an arc to each person who has none, or returns a Hall violator.
 ///
-/// Persons without an arc take their turns in rising order. Each starts a search, breadth first and over the arcs in
-/// the order of the list, for a free object; along the path to it each person hands his object on to the one before
-/// him. So all who had an object keep one. Where a search finds no free object, the persons whom it reached know only
-/// the objects that it saw, and each of these is held by one of them, but the starting person holds none.
+/// Each person without an arc, in rising order, starts a breadth-first search for a free object, over the arcs in the
+/// order of the list. Along the path to it each person gives up an object to the person before on the path. So all who
+/// had an object keep one.
+///
+/// Where a search finds no free object, the persons that it reached have arcs only to objects that it saw. Each of
+/// these objects is held by one of them, but the starting person holds none.
 ///
 /// This is the augmenting path method (Kuhn 1955, after Kőnig and Egerváry), and the set is Hall's (1935).
 ///
@@ -85,7 +87,7 @@ fn complete_parts(
 pub fn complete(alloc: Global, rows: &Rows, partial: Partial) -> Result<Matching, AllocError>
     requires { IsFor rows.now partial }
     ensures matching { IfOk result (IsMatching rows.now) }
-    // A full assignment keeps the arcs that there were, but for the exchanges that place the others.
+    // A full assignment keeps its arcs, but for the exchanges that place the other persons.
     ensures grown { IfOk result (HasGrown rows.now partial.choice) }
 {
     let (mut choice, mut holder) = partial.into_parts();

@@ -1,4 +1,4 @@
-//! The exchange along the path that a search has found.
+//! The exchange along an augmenting path that a search has found.
 
 ghost use Rattle.std.specs.Prelude.{◌≡◌, ◌<◌, ℕ, length, Some, None, slice_get};
 ghost use Rattle.auc_hall.specs.declared.search.Reached.{Reached};
@@ -9,8 +9,8 @@ ghost use Rattle.auc_hall.specs.Completion.{IsExchange};
 use crate::search::{PathEnd, Reached};
 use auc_graph::{RowArc, Rows};
 
-/// Gives the free object to the person who found it, his own to the one before him, and so on to the first, who had
-/// none. Nobody loses his place.
+/// Gives the free object to the person who found it, that person's object to the one before on the path, and so on to
+/// the first, who had none. Nobody loses a place.
 pub(crate) fn exchange(
     _rows: &Rows,
     choice: &mut [Option<RowArc>],
@@ -33,7 +33,7 @@ pub(crate) fn exchange(
         let step = queue[at];
         choice[step.person as usize] = Some(arc);
         holder[arc.object as usize] = Some(step.person);
-        // His old object is free until the person before him takes it: so no object ever has two holders.
+        // The old object is free until the person before takes it, so no object ever has two holders.
         holder[step.arc.object as usize] = None;
         arc = step.arc;
         at = step.parent;

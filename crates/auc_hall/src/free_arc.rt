@@ -1,4 +1,4 @@
-//! The look for a free object among the arcs of one person.
+//! The scan for a free object among the arcs of one person.
 
 ghost use Rattle.std.specs.Prelude.{◌≡◌, ◌<◌, length, IfSome};
 ghost use Rattle.auc_graph.specs.Table.{row_of};
@@ -6,10 +6,11 @@ ghost use Rattle.auc_hall.specs.Search.{IsFreeArc};
 
 use auc_graph::{RowArc, Rows};
 
-/// The person's first arc to an object that nobody holds. `looked` says how many arcs of each person were looked at.
+/// The person's first arc to an object that nobody holds. `looked` is the number of arcs of each person that were
+/// scanned before.
 ///
-/// In a completion an object that is held stays held, so a look goes on where the last one ended. All of them together
-/// look at each arc once, O(arcs). Should one have been left out, the search would still meet it.
+/// In a completion an object that is held stays held, so a scan goes on where the last one ended. All of them together
+/// scan each arc once, O(arcs). If one were left out, the search would still find it.
 pub(crate) fn free_arc(
     rows: &Rows,
     holder: &[Option<u32>],

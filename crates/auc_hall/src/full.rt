@@ -1,4 +1,4 @@
-//! Whether there is a full assignment: a search proposes one, and what it proposes is tried.
+//! Whether there is a full assignment: a search proposes one, and the proposal is checked.
 
 ghost use Rattle.std.specs.Prelude.{◌≡◌, ◌<◌, IsTrue, IfOk, length};
 ghost use Rattle.auc_hall.specs.Full.{HasRowAssignment, HoldsOne};
@@ -7,7 +7,7 @@ use crate::labels::{NO_PLACE, search_by_labels};
 use auc_graph::Rows;
 use std::alloc::{AllocError, Global};
 
-/// Whether the arc at this place of the person's row leads to an object that he holds.
+/// Whether the arc at this place of the person's row leads to an object that the person holds.
 fn holds_at(rows: &Rows, holders: &[Option<u32>], person: u32, place: u32) -> bool
     requires person { person < length rows.now.rows }
     requires holders { length holders.now ≡ rows.now.objects }
@@ -24,8 +24,8 @@ fn holds_at(rows: &Rows, holders: &[Option<u32>], person: u32, place: u32) -> bo
     }
 }
 
-/// Whether each person holds an object by the arc at his place of his row. No object has two holders, so no two persons
-/// share one.
+/// Whether each person holds an object by the arc at the person's place of the row. No object has two holders, so no
+/// two persons share one.
 fn hold_all(rows: &Rows, holders: &[Option<u32>], places: &[u32]) -> bool
     requires holders { length holders.now ≡ rows.now.objects }
     requires places { length places.now ≡ length rows.now.rows }
@@ -39,12 +39,12 @@ fn hold_all(rows: &Rows, holders: &[Option<u32>], places: &[u32]) -> bool
     true
 }
 
-/// Whether a quick search finds an assignment, whatever it is. False says nothing: there may be one all the same, and
-/// [`complete`](crate::complete) tells.
+/// Whether a quick search finds an assignment, of any cost. False says nothing: there may still be one, and
+/// [`complete`](crate::complete) decides.
 ///
-/// The search goes by labels of the objects (push and relabel, Goldberg and Tarjan 1988), and gives up after 16 times
-/// as many looks at arcs as there are arcs, or where it sees that there is none. What it has found is tried in one pass
-/// over the persons before true is answered.
+/// The search works by labels of the objects (push and relabel, Goldberg and Tarjan 1988). It gives up after 16 times
+/// as many scans of arcs as there are arcs, or where it finds that there is no assignment. The proposal is checked in
+/// one pass over the persons before true is returned.
 ///
 /// O(arcs + persons + objects) time, O(persons + objects) memory, all of it taken before the search.
 ///

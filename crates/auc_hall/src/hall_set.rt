@@ -1,4 +1,4 @@
-//! The answer of a search without an end: the persons whom it reached, and the objects that it saw.
+//! The Hall violator of a search that found no free object: the persons that it reached, and the objects that it saw.
 
 ghost use Rattle.std.specs.Prelude.{◌≡◌, ◌<◌, ◌^◌, length, IfOk};
 ghost use Rattle.auc_hall.specs.Matching.{IsHall, IsMatching};
@@ -25,7 +25,7 @@ fn places_of(alloc: Global, flags: &[bool]) -> Result<Vec<u32>, AllocError>
     Ok(out)
 }
 
-/// For each of so many persons, whether he was reached.
+/// For each of `persons` persons, whether the search reached that person.
 fn reached_flags(alloc: Global, queue: &[Reached], persons: usize) -> Result<Vec<bool>, AllocError>
     requires { ArePersons queue.now persons }
     ensures { IfOk result (λ v. AreReached queue.now persons v.items) }
@@ -37,7 +37,7 @@ fn reached_flags(alloc: Global, queue: &[Reached], persons: usize) -> Result<Vec
     Ok(flags)
 }
 
-/// The persons who were reached, and the objects that were seen.
+/// The persons that were reached, and the objects that were seen.
 pub(crate) fn hall_set(
     alloc: Global,
     rows: &Rows,

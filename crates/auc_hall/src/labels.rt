@@ -1,13 +1,15 @@
 //! The search for any full assignment, by labels of the objects (push and relabel).
 //!
-//! Who needs an object takes the one of his row with the lowest label, and raises that to one more than the next
-//! lowest. Whom he displaces goes on in the same way, until somebody takes a free object. A free object has the label
-//! 0, and no other label is more than the number of persons who have to move until the object is free, its holder last:
-//! so persons go where free objects are near, and what one has found out spares the others the way.
+//! A person who needs an object takes the one in the row with the lowest label, and raises that label to one more than
+//! the next lowest. The displaced person does the same, until a person takes a free object.
 //!
-//! Where the lowest label of a row isn't 0 and no object has the label below it, nobody who holds an object with that
-//! label or a higher one knows any other object. They and the one who needs an object are too many, and the search
-//! gives up.
+//! A free object has the label 0. Any other label is at most the number of persons who have to move until the object is
+//! free, its holder last. So persons move towards close free objects, and a label found for one person saves work for
+//! the others.
+//!
+//! Where the lowest label of a row isn't 0 and no object has the label below it, there is a gap. Nobody who holds an
+//! object with that label or a higher one has an arc to any other object. These persons and the one who needs an object
+//! are a Hall violator, and the search gives up.
 //!
 //! Goldberg and Tarjan, "A new approach to the maximum-flow problem", Journal of the ACM 35 (1988). For assignments:
 //! Kaya, Langguth, Manne and Uçar, "Push-relabel based algorithms for the maximum transversal problem", Computers and
@@ -15,20 +17,21 @@
 //! max-flow-algorithm", Zeitschrift für Operations Research 33 (1989). It is the auction of Bertsekas (1988) where all
 //! costs are the same, with labels for prices.
 //!
-//! Nothing is proved of it but that it ends, since what it proposes is tried. So it tests who holds what, and its sums
-//! stop at their ends.
+//! Nothing is proved of it but that it ends, since its proposal is checked. So it tests holders as it goes, and its
+//! sums saturate.
 
 ghost use Rattle.std.specs.Prelude.{◌≡◌, ◌<◌, ◌+◌, All, IfSome, false, length};
 
 use auc_graph::{RowArc, Rows};
 
-/// How many times as many arcs as there are the search looks at for those who find no free object at once.
+/// The number of scans of each arc, in the mean, after which the search gives up; the scans for persons who find a free
+/// object at once don't count.
 const MOST_LOOKS: usize = 16;
 
 /// More than any label.
 const NO_LABEL: u32 = u32::MAX;
 
-/// The place of who has no arc yet.
+/// The place of a person who has no arc yet.
 pub(crate) const NO_PLACE: u32 = u32::MAX;
 
 /// The place in a row of the arc to the object with the lowest label, that label, and the next lowest one.
@@ -39,13 +42,13 @@ struct Lowest {
     next: u32,
 }
 
-/// What comes of a person who needs an object.
+/// The outcome of a person's search for an object.
 enum Taken {
-    /// He takes one that was free.
+    /// The person takes a free one.
     Free,
-    /// He takes one from this person.
+    /// The person takes one that this person held.
     From(u32),
-    /// He takes none, since no way leads to a free one.
+    /// The person takes none, since no path leads to a free one.
     Nothing,
 }
 
@@ -62,7 +65,7 @@ fn first_free(row: &[RowArc], labels: &[u32]) -> Option<usize>
     None
 }
 
-/// Each person in order takes the first free object of his row, where there is one; gives how many do.
+/// Each person in order takes the first free object of the row, where there is one; returns how many do.
 fn place_freely(
     rows: &Rows,
     labels: &mut [u32],
@@ -88,7 +91,7 @@ fn place_freely(
     placed
 }
 
-/// The object with the lowest label, the first of them. Of a free one, 0 stands for the next lowest label.
+/// The object with the lowest label, the first of them. For a free one, 0 is given in place of the next lowest label.
 fn lowest_of(row: &[RowArc], labels: &[u32]) -> Lowest
     requires { All (λ a. a.object < length labels.now) row.now }
 {
@@ -99,7 +102,7 @@ fn lowest_of(row: &[RowArc], labels: &[u32]) -> Lowest
     };
     for place in 0..row.len() {
         let label = labels[row[place].object as usize];
-        // Most arcs go no further than this test.
+        // Most arcs need this test only.
         if label >= lowest.next {
             continue;
         }
@@ -120,8 +123,9 @@ fn lowest_of(row: &[RowArc], labels: &[u32]) -> Lowest
     lowest
 }
 
-/// Whether no way to a free object leads over objects with this label: as many persons as there are would have to move
-/// on, or no object has the label below. `counts` has the number of objects of each label, up to the number of persons.
+/// Whether no path to a free object leads over objects with this label: as many persons as there are would have to
+/// move, or no object has the label below. `counts` has the number of objects of each label, up to the number of
+/// persons.
 fn is_cut_off(counts: &[u32], label: u32) -> bool
     requires { 0 < length counts.now }
     ensures { result ≡ false → label < length counts.now }
@@ -133,7 +137,7 @@ fn is_cut_off(counts: &[u32], label: u32) -> bool
     label + 1 >= counts.len() || counts[label - 1] == 0
 }
 
-/// The person takes the object of his row with the lowest label.
+/// The person takes the object of the row with the lowest label.
 fn take(
     rows: &Rows,
     labels: &mut [u32],
@@ -168,8 +172,8 @@ fn take(
     }
 }
 
-/// Finds an object for a person, and for whom he displaces, and so on until somebody takes a free one. False where no
-/// way leads to one, or where no looks are left.
+/// Finds an object for a person, and for the displaced person, and so on until a person takes a free one. False where
+/// no path leads to one, or where no scans are left.
 fn place(
     rows: &Rows,
     labels: &mut [u32],
@@ -196,8 +200,8 @@ fn place(
     false
 }
 
-/// Finds an object for each person; false where it gives up. It begins with labels and counts of 0, no holders, and
-/// nobody at a place. Then whoever holds an object does so by the arc at his place of his row.
+/// Finds an object for each person; false where it gives up. It begins with labels and counts of 0, no holders, and no
+/// places. At the end each holder has the object by the arc at the holder's place of the row.
 pub(crate) fn search_by_labels(
     rows: &Rows,
     labels: &mut [u32],
@@ -215,7 +219,7 @@ pub(crate) fn search_by_labels(
     counts[1] = placed;
     let mut looks = 0usize;
     for person in 0..rows.persons() {
-        // Each person brings looks at his own arcs, so that nobody has to count the arcs before.
+        // Each person adds scans of the person's own arcs to the limit, so that the arcs need not be counted before.
         let brought = rows.row(person).len().saturating_mul(MOST_LOOKS);
         looks = looks.saturating_add(brought);
         if places[person as usize] != NO_PLACE {

@@ -1,4 +1,4 @@
-//! What a completion says of the problem whose rows it was made for, as contracts of functions without a body.
+//! What a completion means for the problem whose rows it was made for, as contracts of functions without a body.
 
 ghost use Rattle.std.specs.Prelude.{◌≡◌, ℕ, List, Option};
 ghost use Rattle.auc_graph.specs.declared.arc.Arc.{Arc};
@@ -11,13 +11,13 @@ ghost use Rattle.auc_hall.specs.declared.matching.Matching.{Matching};
 ghost use Rattle.auc_hall.specs.Matching.{IsMatching, IsMatchingOf};
 ghost use Rattle.auc_hall.specs.Completion.{AreAllPlaced, IsGrown};
 
-/// What holds of the rows of a problem holds of its arcs: a full assignment of the rows is one of the problem, and
-/// persons who know too few objects by their rows know too few by the arcs of the problem.
+/// A fact about the rows of a problem is one about its arcs: a full assignment of the rows is one of the problem, and
+/// so is a Hall violator.
 pub fn matchings_hold_of_the_problem()
     ensures { (p : Problem) (t : Table) (m : Matching) → IsTableOf p t → IsMatching t m → IsMatchingOf p m }
 {}
 
-/// Where some persons together know fewer objects than they number, there is no assignment.
+/// Where there is a Hall violator, there is no assignment.
 pub fn hall_sets_leave_no_assignment()
     ensures { (p : Problem) (persons objects : List ℕ) → IsHallSet p persons objects → (choice : List Arc) → IsAssignment p choice → ⊥ }
 {}

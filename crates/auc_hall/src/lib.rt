@@ -1,10 +1,13 @@
-//! Gives each person an object by an arc of his, no object twice, or names persons who together know fewer objects than
-//! they are: those whom a planner has to blame where no full assignment exists.
+//! Gives each person an object by one of the person's arcs, no object twice, or returns a Hall violator: persons who
+//! together have arcs to fewer objects than they number. It shows a planner why there is no full assignment.
 //!
-//! A person knows the objects of his arcs. `complete` takes O(persons * arcs) time at most, and mostly far less: each
-//! search for a free object looks at an arc at most once and stops at the first one that leads to a free object.
-//! `has_full_matching` is for who only asks whether there is a full assignment: it takes O(arcs) time, and where it
-//! finds none `complete` tells. Persons, objects and arcs are numbered from 0.
+//! The method is augmenting paths by breadth-first search (Kuhn, 1955), and for the quick test push and relabel
+//! (Goldberg and Tarjan, 1988). [`complete`] takes O(persons * arcs) time at most, and mostly far less: a search scans
+//! an arc at most once, and stops at the first one to a free object. [`has_full_matching`] takes O(arcs + persons +
+//! objects) time, for callers who only ask whether there is a full assignment; where it finds none, `complete` decides.
+//!
+//! Proved: a matching is an assignment, and a Hall violator leaves no assignment. Nothing is proved of the search by
+//! labels. Its proposal is checked. Persons, objects and arcs are numbered from 0.
 #![tactic(auto)]
 
 mod completion;

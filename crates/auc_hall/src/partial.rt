@@ -11,7 +11,7 @@ use std::marker::Model;
 
 /// Arcs of some of the persons, no two of them to one object.
 ///
-/// Contracts see the arc of each person, where he has one, and how many objects there are.
+/// Contracts see the arc of each person, if there is one, and the number of objects.
 #[derive(Debug, Drop)]
 pub struct Partial {
     choice: Vec<Option<RowArc>>,
@@ -30,7 +30,7 @@ impl Model for Partial {
     ghost invariant = { λ a. AreTied a.choice.items a.holder.items };
 }
 
-/// So many persons without an arc.
+/// This many persons without an arc.
 fn no_arcs(alloc: Global, persons: u32) -> Result<Vec<Option<RowArc>>, AllocError>
     ensures len { IfOk result (λ v. length v.items ≡ persons) }
     ensures none { IfOk result (λ v. (i : ℕ) → slice_index_or v.items i None ≡ None) }
@@ -42,7 +42,7 @@ fn no_arcs(alloc: Global, persons: u32) -> Result<Vec<Option<RowArc>>, AllocErro
     Ok(out)
 }
 
-/// So many objects that nobody holds.
+/// This many objects that nobody holds.
 fn no_holders(alloc: Global, objects: u32) -> Result<Vec<Option<u32>>, AllocError>
     ensures len { IfOk result (λ v. length v.items ≡ objects) }
     ensures none { IfOk result (λ v. (i : ℕ) → slice_index_or v.items i None ≡ None) }
@@ -110,10 +110,10 @@ impl Partial {
         Ok(Partial { choice, holder })
     }
 
-    /// Gives the person his arc of this number, its place in the list of arcs.
+    /// Gives the person the arc of this number, its place in the list of arcs.
     ///
-    /// False where he has an arc already, where no arc of his has the number, or where somebody holds its object; then
-    /// all stays as it was. O(arcs of the person), takes no memory.
+    /// False where the person has an arc already, where no arc of the person has the number, or where its object has a
+    /// holder; then nothing changes. O(arcs of the person), takes no memory.
     pub fn place(&mut self, rows: &Rows, person: u32, arc: u32) -> bool
         requires made { IsFor rows.now self.old }
         requires person { person < length rows.now.rows }
@@ -133,7 +133,7 @@ impl Partial {
         )
     }
 
-    /// The arc of each person, where he has one, and the person who holds each object. Takes no memory.
+    /// The arc of each person, if there is one, and the holder of each object. Takes no memory.
     pub(crate) fn into_parts(self) -> (Vec<Option<RowArc>>, Vec<Option<u32>>)
         ensures choice { result.0.items ≡ self.choice }
         ensures objects { length result.1.items ≡ self.objects }

@@ -1,6 +1,6 @@
-//! The search for a free object, breadth first.
+//! The breadth-first search for a free object.
 //!
-//! The line of reached persons is its own record of the way back: each entry names the place of the person before it.
+//! The queue of reached persons also records the paths: each entry has the place of the person before it on the path.
 
 ghost use Rattle.std.specs.Prelude.{◌≡◌, ◌<◌, ℕ, length, All, Some, None, true, false, slice_index_or, slice_get, IfOk, OnOk, IfSome, IfNone};
 ghost use Rattle.auc_graph.specs.Table.{row_of};
@@ -12,8 +12,8 @@ use crate::free_arc::free_arc;
 use auc_graph::{RowArc, Rows};
 use std::alloc::AllocError;
 
-/// A person whom the search came to. `arc` leads to the object that he holds; it is an arc of the person at the place
-/// `parent` of the queue. The first person of a queue holds nothing, and there both say nothing.
+/// A person that the search has reached. `arc` leads to the object that this person holds; it is an arc of the person
+/// at the place `parent` of the queue. The first person of a queue holds nothing, and there both mean nothing.
 #[derive(Clone, Copy, Debug, PartialEq, Eq)]
 pub(crate) struct Reached {
     pub(crate) arc: RowArc,
@@ -28,9 +28,9 @@ pub(crate) struct PathEnd {
     pub(crate) at: usize,
 }
 
-/// Looks at the arcs of the person at this place of the queue. Each object that was not seen yet is marked, and its
-/// holder put last into the queue; the first of these who has an arc to a free object ends the search. He is the first
-/// of the whole queue who has one, since each before him was asked when he was put there.
+/// Scans the arcs of the person at this place of the queue. Each object that was not seen yet is marked, and its holder
+/// is appended to the queue. The first of these holders who has an arc to a free object ends the search. This person is
+/// the first of the whole queue who has one, since each one before was tested when appended.
 fn walk(
     rows: &Rows,
     _choice: &[Option<RowArc>],
@@ -92,8 +92,8 @@ fn forget(seen: &mut [bool], queue: &[Reached])
     }
 }
 
-/// Searches a free object from this person on, the nearest first. `seen` and `queue` are those of the search before,
-/// and `looked` says how many arcs of each person were looked at for a free object.
+/// Searches for a free object from this person on, the closest first. `seen` and `queue` are those of the search
+/// before, and `looked` is the number of arcs of each person that were scanned for a free object.
 pub(crate) fn search(
     rows: &Rows,
     choice: &[Option<RowArc>],

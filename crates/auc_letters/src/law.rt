@@ -10,19 +10,19 @@ ghost use Rattle.auc_letters.specs.Award.{Sale, award_all};
 
 use crate::letter::Letter;
 
-/// Letters that `==` calls equal are the same letter.
+/// Letters that are equal by `==` are the same letter.
 pub fn equal_letters_are_same()
     ensures { (a b : Letter) → letter_eq.it a b ≡ true → a ≡ b }
 {}
 
-/// The numbers of the limits; and what passes as an amount is what may be a price.
+/// The numbers of the limits; and an amount is lawful where it may be a price.
 pub fn limits_are()
     ensures eps { most_eps ≡ pos (2 ^ 60) }
     ensures shards { most_shards ≡ 16 }
     ensures amounts { (amount : ℤ) → IsTrue (is_amount amount) ↔ IsPrice amount }
 {}
 
-/// Bids on an object never lower its price, and nothing changes where nobody comes to hold it.
+/// Bids on an object never lower its price. Where nobody holds the object after them, it is unchanged.
 pub fn awards_raise_prices()
     ensures rises { (eps : ℤ) (sale : Sale) (bids : List ABid) → IsEps eps → sale.price ≤ℤ (award_all eps sale bids).price }
     ensures unheld { (eps : ℤ) (sale : Sale) (bids : List ABid) → (award_all eps sale bids).holder ≡ None

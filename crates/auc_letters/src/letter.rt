@@ -1,4 +1,4 @@
-//! What a letter says, and a bid by itself.
+//! The letters, and a bid by itself.
 
 /// Why a shard stops before the phase is done.
 #[derive(Clone, Copy, Debug, PartialEq, Eq)]
@@ -9,13 +9,13 @@ pub enum Why {
     Ceiling,
     /// A person has no arc.
     Stuck,
-    /// A lane has had as many letters as it may have.
+    /// A lane has had all its posts.
     Posts,
     /// A trail has no place left.
     Trail,
     /// A mail has no room left.
     Mail,
-    /// A letter told a price that is below an earlier one.
+    /// The price of a letter is below an earlier one.
     Fell,
     /// A letter came that doesn't fit.
     Stray,
@@ -31,7 +31,7 @@ pub enum Letter {
         object: u32,
         amount: i64,
     },
-    /// The person's bid was accepted, and this is the price now: he holds the object.
+    /// The person's bid was accepted, and this is the price now: the person holds the object.
     Award {
         person: u32,
         object: u32,
@@ -43,7 +43,7 @@ pub enum Letter {
         object: u32,
         price: i64,
     },
-    /// The person held the object; another has it now, at this price.
+    /// The person held the object; another person has it now, at this price.
     Outbid {
         person: u32,
         object: u32,
@@ -64,8 +64,8 @@ pub enum Letter {
     },
 }
 
-/// A bid, without the letter that brings it: the person bids this amount, in scaled costs, for the object, by the arc
-/// at this place in the list of arcs.
+/// A bid, without the letter around it: the person bids this amount, in scaled costs, for the object, by the arc at
+/// this place in the list of arcs.
 #[derive(Clone, Copy, Debug, PartialEq, Eq)]
 pub struct Bid {
     pub person: u32,

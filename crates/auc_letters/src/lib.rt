@@ -1,7 +1,9 @@
-//! Letters between persons and objects: what they say, where they go, and what they do.
+//! The letters between persons and objects: their content, their receivers, and their effects.
 //!
 //! Persons, objects, arcs and shards are numbered from 0. All types are small `Copy` values. The award rule, and the
 //! shard that a letter goes to, are defined in `specs/Award.antt` and `specs/Routing.antt`.
+//!
+//! Proved: bids never lower a price, and an object that nobody holds after them is unchanged.
 #![tactic(auto)]
 
 mod law;

@@ -1,11 +1,11 @@
-//! Where a letter goes.
+//! The receiver of a letter.
 
 ghost use Rattle.std.specs.Prelude.{◌≡◌, ◌<◌, ◌%◌};
 ghost use Rattle.auc_letters.specs.Award.{bid_out};
 
 use crate::letter::{Bid, Letter};
 
-/// Who gets a letter.
+/// The receiver of a letter.
 #[derive(Clone, Copy, Debug, PartialEq, Eq)]
 pub enum To {
     /// This shard of the persons, in the persons' mail.
@@ -21,7 +21,7 @@ pub enum To {
 pub struct Out {
     pub letter: Letter,
     pub to: To,
-    /// The post is refused where no more than so many places of the mail are free.
+    /// The post is refused where no more than this number of places of the mail are free.
     pub reserve: u32,
 }
 
@@ -40,7 +40,7 @@ impl Default for Out {
     }
 }
 
-/// The shard, of so many, that a person or an object belongs to.
+/// The shard, of `shards` shards, that a person or an object belongs to.
 #[inline]
 pub fn shard_of(number: u32, shards: u32) -> u32
     requires { 0 < shards }
@@ -55,7 +55,7 @@ pub fn shard_of(number: u32, shards: u32) -> u32
 }
 
 impl Bid {
-    /// The letter that brings a bid to the shard of its object, of so many shards.
+    /// The letter that brings a bid to the shard of its object.
     #[inline]
     pub fn into_out(self, shards: u32) -> Out
         requires { 0 < shards }

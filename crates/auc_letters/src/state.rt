@@ -1,17 +1,17 @@
-//! What letters change: how a person stands, and who holds an object.
+//! The state that letters change: that of a person, and the holder of an object.
 
-/// How a person stands.
+/// The state of a person.
 #[derive(Clone, Copy, Debug, PartialEq, Eq)]
 pub enum PersonState {
-    /// He holds nothing, and no bid of his is under way.
+    /// The person holds nothing, and has no bid under way.
     Free,
-    /// His bid for the object is under way.
+    /// The person's bid for the object is under way.
     Waits { object: u32 },
-    /// He holds the object, as far as he has heard.
+    /// The person holds the object, by the last letter that came.
     Holds { object: u32 },
 }
 
-/// The holder of an object: the person, and the place of his arc in the list of arcs.
+/// The holder of an object: the person, and the place of the holder's arc in the list of arcs.
 #[derive(Clone, Copy, Debug, PartialEq, Eq)]
 pub struct Held {
     pub person: u32,

@@ -1,4 +1,4 @@
-//! What is known of a box beside its lanes, and which of its lanes is next.
+//! The state of a box beside its lanes, and the lane whose turn it is.
 
 ghost use Rattle.std.specs.Prelude.{[], ◌≡◌, ◌≢◌, ◌+◌, ◌-◌, ◌*◌, ◌<◌, ◌≤◌, ◌^◌, ℕ, length, slice_set, MatchOption, false};
 ghost use Rattle.auc_nodes.specs.Lists.{list_of};
@@ -6,10 +6,10 @@ ghost use Rattle.auc_mail.specs.Pool.{IsLaneOf, box_of};
 
 use auc_nodes::NodePool;
 
-// What is known of a box beside its lanes.
+// The state of a box beside its lanes.
 #[derive(Clone, Copy)]
 pub struct MailBox {
-    // How many letters wait in its lanes.
+    // The number of letters that wait in its lanes.
     pub waiting: u32,
 
     // The lane of the newest letter, where one waits.
@@ -23,7 +23,7 @@ pub struct MailBox {
 // No lane.
 pub(crate) const NO_LANE: u32 = u32::MAX;
 
-// A letter more waits in the box, in this lane.
+// Adds a letter that waits in the box, in this lane.
 #[inline]
 pub(crate) fn note_post(boxes: &mut Vec<MailBox>, at: u32, lane: u32)
     requires at { at < length boxes.old.items }
@@ -42,7 +42,7 @@ pub(crate) fn note_post(boxes: &mut Vec<MailBox>, at: u32, lane: u32)
     state.last = lane;
 }
 
-// A letter less waits in the box: that lane has given it.
+// Removes a letter of that lane from the box.
 #[inline]
 pub(crate) fn note_take(boxes: &mut Vec<MailBox>, at: u32, lane: u32)
     requires at { at < length boxes.old.items }
@@ -61,7 +61,7 @@ pub(crate) fn note_take(boxes: &mut Vec<MailBox>, at: u32, lane: u32)
     state.giver = lane;
 }
 
-// Tells a box that it is closed.
+// Notes that the box is closed.
 #[inline]
 pub(crate) fn note_close(boxes: &mut Vec<MailBox>, at: u32)
     requires { at < length boxes.old.items }

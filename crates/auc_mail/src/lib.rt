@@ -1,8 +1,10 @@
-//! Mailboxes with a lane for each sender: what a box hands out of one sender's letters is a prefix of what that sender
-//! posted there, and a closed box accepts nothing more.
+//! Mailboxes with a lane for each sender.
 //!
-//! A call changes the mail by one step (`specs/Step.antt`); a script of calls is a run of such steps, and keeps both
-//! laws.
+//! A call changes the mail by one step (`specs/Step.antt`). A script of calls is a run of such steps. A post takes O(1)
+//! time, a take O(senders) at most.
+//!
+//! Proved: what a box hands out of one sender's letters is a prefix of what that sender posted there, and a closed box
+//! accepts nothing more. A run of calls keeps both laws.
 #![tactic(auto)]
 
 mod boxes;

@@ -1,4 +1,4 @@
-//! The mail itself: what each call makes of it.
+//! The mail itself, and its calls.
 
 ghost use Rattle.std.specs.Prelude.{replicate, ◌≡◌, ◌≤◌, IfOk, IfErr, OnOk};
 ghost use Rattle.auc_nodes.specs.Lists.{empty_lists};
@@ -30,7 +30,7 @@ pub struct MailPool<T: Copy> {
     // The letters that wait, a list for each lane.
     lists: NodePool<T>,
 
-    // How many letters of each lane were posted.
+    // The number of letters posted in each lane.
     posted: Vec<u64>,
     boxes: Vec<MailBox>,
     most: u64,
@@ -120,7 +120,7 @@ impl<T: Copy> MailPool<T> {
         }
     }
 
-    /// Closes the box, and answers whether it was still open. Its waiting letters stay. Takes O(1) time.
+    /// Closes the box, and returns whether it was still open. Its waiting letters stay. Takes O(1) time.
     pub fn close(&mut self, at: u32) -> bool
         requires { Fits self.old (Call.Close at) }
         ensures { Step self.old (Call.Close at) (Reply.WasOpen result) self.new }
@@ -130,7 +130,7 @@ impl<T: Copy> MailPool<T> {
         was_open
     }
 
-    /// Makes the call, and answers it. Takes the time of `post`, `take` or `close`.
+    /// Makes the call, and returns its answer. Takes the time of `post`, `take` or `close`.
     pub fn answer(&mut self, call: Call<T>) -> Reply<T>
         requires { Fits self.old call }
         ensures { Step self.old call result self.new }
@@ -150,7 +150,7 @@ impl<T: Copy> MailPool<T> {
         }
     }
 
-    /// What every mail keeps. This is a law, and does nothing: proofs above cite it.
+    /// The invariant of every mail. This is a law, and does nothing: proofs above cite it.
     pub fn every_mail_is_sound(&self)
         ensures { IsSound self.now }
     {

@@ -1,4 +1,4 @@
-//! A person's best arc, and what his other arcs are worth at least.
+//! A person's best arc, and a lower bound on the values of the person's other arcs.
 
 ghost use Rattle.std.specs.Prelude.{◌<◌, length};
 ghost use Rattle.auc_market.specs.Scan.{IsPricedRow, short_value};
@@ -7,8 +7,8 @@ ghost use Rattle.auc_market.specs.Shortlist.{IsBest};
 use crate::scan::scan;
 use auc_rows::ShortArc;
 
-/// What a person's best arc is worth, what no other one of his is worth less than (the greatest number where he has no
-/// other), and the arc.
+/// The value of a person's best arc; a lower bound on the values of the person's other arcs (the greatest number where
+/// there is no other); and the best arc.
 #[derive(Clone, Copy)]
 pub(crate) struct Best {
     pub(crate) value: i64,

@@ -1,4 +1,4 @@
-//! What a person bids at the present prices.
+//! The bid of a person at the present prices.
 
 ghost use Rattle.std.specs.Prelude.{true, false, ◌≡◌, ◌<◌, ◌+◌, ◌*◌, ◌^◌, pos, ◌+ℤ◌, ◌-ℤ◌, ◌*ℤ◌, ◌≤ℤ◌, ◌<ℤ◌, All, length};
 ghost use Rattle.auc_graph.specs.Price.{IsPrice};
@@ -12,7 +12,7 @@ use crate::best::Best;
 use auc_graph::MOST_PRICE;
 use auc_rows::{FlatRows, ShortArc};
 
-/// What is bid: an amount, in scaled costs, which the object's price is then; and the arc that it is bid by.
+/// A bid: its amount, in scaled costs, which becomes the object's price; and the arc that the bidder takes.
 #[derive(Clone, Copy)]
 pub(crate) struct Bid {
     pub(crate) amount: i64,
@@ -40,8 +40,8 @@ pub(crate) fn scaled_spread(rows: &FlatRows) -> i64
     rows.scale() * rows.spread()
 }
 
-/// How much more the second arc of a row is worth than its best one; the scaled spread of all costs where there is no
-/// second.
+/// How far the second-best value of a row is above the best one; the scaled spread of all costs where there is no
+/// second arc.
 #[inline(always)]
 fn lead_of(rows: &FlatRows, best: Best) -> i64
     requires value { IsValue best.value }
@@ -59,7 +59,7 @@ fn lead_of(rows: &FlatRows, best: Best) -> i64
     }
 }
 
-/// The price, how much more the second arc is worth, and eps.
+/// The price plus the margin to the second-best value plus eps.
 #[inline(always)]
 fn amount_of(price: i64, lead: i64, eps: i64) -> i64
     requires price { IsPrice price }
@@ -71,8 +71,8 @@ fn amount_of(price: i64, lead: i64, eps: i64) -> i64
     price + lead + eps
 }
 
-/// What a person bids at these prices, indexed by object: on his best arc, and so much that it is then worth eps more
-/// than his second. `eps` and `prices` are in scaled costs.
+/// A person's bid at these prices, indexed by object. It is on the best arc, and so high that the arc's value is then
+/// eps above the second-best value. `eps` and `prices` are in scaled costs.
 ///
 /// O(1): the best arc is found before. The method is the bid of the auction algorithm (Bertsekas, 1979).
 #[inline(always)]
@@ -84,7 +84,7 @@ pub(crate) fn bid_of(rows: &FlatRows, eps: i64, _person: u32, best: Best, prices
     ensures raise { IsRaise (scale_in rows.now) eps prices.now (flat_row_of rows.now _person) result.arc result.amount }
     ensures offer { IsOffer (scale_in rows.now) rows.now.spread eps prices.now (flat_row_of rows.now _person) result.arc result.amount }
 {
-    // Read here, so that the proof knows what all rows keep.
+    // Read here, so that the proof knows the invariant of the rows.
     let _ = rows.persons();
     let arc = best.arc;
     let lead = lead_of(rows, best);

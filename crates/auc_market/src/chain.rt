@@ -1,4 +1,5 @@
-//! A chain of bids: whoever is displaced bids next; where that goes far, a path is looked for.
+//! A chain of bids: the displaced person bids next. After many bids in a row a search for an augmenting path takes the
+//! place of the next one.
 
 ghost use Rattle.std.specs.Prelude.{◌≡◌, IfErr, IfOk, OnOk};
 ghost use Rattle.auc_market.specs.declared.holdings.TheConstants.{NOBODY};
@@ -11,10 +12,10 @@ use crate::holdings::NOBODY;
 use crate::market::Market;
 use crate::pace::Pace;
 
-/// How many bids were left where a chain ended last, after one more bid.
+/// The number of bids left where a chain ended last, after one more bid.
 ///
-/// LLVM makes a select of it: a branch would be guessed wrongly where a chain ends. Were the bids of a chain counted,
-/// with 0 where it ends, it would make a branch of that all the same, since after 0 bids no path is asked for.
+/// LLVM compiles this to a select. A branch would be mispredicted where a chain ends. A counter of the chain's bids,
+/// set to 0 at its end, would become a branch: after 0 bids there is no search for a path.
 #[inline(always)]
 fn ended_at(ended: u64, left: u64, displaced: u32) -> u64
     ensures { displaced ≡ NOBODY → result ≡ left }
@@ -23,8 +24,9 @@ fn ended_at(ended: u64, left: u64, displaced: u32) -> u64
 }
 
 impl<'a> Market<'a> {
-    /// Who is free after a bid, with so many left: the displaced person, or, where the last `pace.patience` bids have
-    /// each displaced somebody, whoever is free after a search for a path, which is no bid. NOBODY where nobody is.
+    /// The free person after a bid, with `left` bids left; NOBODY where nobody is free. This is the displaced person.
+    /// Where each of the last `pace.patience` bids has displaced a person, it is the free person after a search for a
+    /// path. A search is no bid.
     #[inline(always)]
     pub(crate) fn freed_by(
         &mut self,
@@ -39,7 +41,7 @@ impl<'a> Market<'a> {
     {
         self.law();
         *ended = ended_at(*ended, left, displaced);
-        // None is asked for where nobody was displaced: the chain has ended here then.
+        // No search is made where nobody was displaced: the chain has ended here then.
         if ended.saturating_sub(left) <= pace.patience.saturating_sub(1) {
             return Ok(displaced);
         }
@@ -49,8 +51,8 @@ impl<'a> Market<'a> {
         Ok(way.free)
     }
 
-    /// A person bids, then whoever is displaced, and so on, until nobody is. `left` is how many bids the phase may
-    /// still make. After each `pace.patience` bids a path is looked for.
+    /// A person bids, then the displaced person, and so on, until nobody is displaced. `left` is the number of bids
+    /// that the phase may still make. After each `pace.patience` bids there is a search for a path.
     pub(crate) fn chain(
         &mut self,
         first: u32,

@@ -2,13 +2,13 @@
 
 use auc_claim::Reason;
 
-/// How a chain of bids has ended, each after the first by the person whom the one before has displaced; or two such
-/// chains that take turns.
+/// How a chain of bids has ended, or two such chains that take turns. Each bid of a chain after the first is by the
+/// person whom the bid before has displaced.
 #[derive(Clone, Copy, Debug, PartialEq, Eq)]
 pub(crate) enum Chain {
     /// Nobody was displaced.
     Placed,
-    /// The phase has made as many bids as it may.
+    /// The bids of the phase have run out.
     Bids,
     /// A bid would be above the greatest price.
     Ceiling,
@@ -19,6 +19,6 @@ pub(crate) enum Chain {
 pub enum Ending {
     /// Each person has an object.
     Sold,
-    /// A limit has stopped it.
+    /// A limit has ended it.
     Stopped(Reason),
 }

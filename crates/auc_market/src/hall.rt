@@ -1,5 +1,5 @@
-//! Persons who together know fewer objects than they number, by flags of the persons. Who made the flags proves nothing
-//! of them: what they come to is counted.
+//! Hall violators: persons who together have arcs to fewer objects than they number, by flags of the persons. Nothing
+//! is proved of who made the flags: the objects are counted.
 
 ghost use Rattle.std.specs.Prelude.{◌≡◌, ◌<◌, ◌^◌, All, length, IfOk, IfSome};
 ghost use Rattle.auc_hall.specs.Chosen.{places};
@@ -9,7 +9,7 @@ ghost use Rattle.auc_market.specs.Hall.{AreAdded, AreKnownTo, IsShortHallSet};
 use auc_rows::{FlatRows, ShortArc};
 use std::alloc::{AllocError, Global};
 
-/// Persons who together know fewer objects than they number, and these objects, both in rising order.
+/// Persons who together have arcs to fewer objects than they number, and these objects, both in rising order.
 #[derive(Drop)]
 pub struct HallSet {
     pub persons: Vec<u32>,
@@ -26,7 +26,7 @@ fn add_row(seen: &mut [bool], row: &[ShortArc])
     }
 }
 
-/// For each object, whether a person who has a flag knows it. O(arcs).
+/// For each object, whether a flagged person has an arc to it. O(arcs).
 fn known_to(alloc: Global, rows: &FlatRows, is_in: &[bool]) -> Result<Vec<bool>, AllocError>
     requires { length is_in.now ≡ length rows.now.rows }
     ensures { IfOk result (λ v. AreKnownTo rows.now is_in.now (length rows.now.rows) v.items) }
@@ -55,7 +55,8 @@ fn places_of(alloc: Global, flags: &[bool]) -> Result<Vec<u32>, AllocError>
     Ok(out)
 }
 
-/// The persons who have a flag, with the objects that they know. None where these are not fewer than they.
+/// The flagged persons, with the objects that they have arcs to. None where these objects are not fewer than the
+/// persons.
 pub(crate) fn hall_set_of(
     alloc: Global,
     rows: &FlatRows,
@@ -64,7 +65,7 @@ pub(crate) fn hall_set_of(
     requires { length is_in.now ≡ length rows.now.rows }
     ensures { IfOk result (λ o. IfSome o (λ h. IsShortHallSet rows.now h.persons.items h.objects.items)) }
 {
-    // Read here, so that the proof knows what all rows keep.
+    // Read here, so that the proof knows the invariant of the rows.
     let _ = rows.persons();
     let seen = known_to(alloc, rows, is_in)?;
     let persons = places_of(alloc, is_in)?;

@@ -1,4 +1,4 @@
-//! Why a run ends with nothing to go on with.
+//! Why a run ends at once, with no market to go on with.
 
 ghost use Rattle.std.specs.Prelude.{◌≡◌};
 ghost use Rattle.auc_market.specs.declared.halt.Halt.TheVariants.{NoMemory};
@@ -11,7 +11,8 @@ use std::alloc::AllocError;
 pub enum Halt {
     /// Memory was refused.
     NoMemory,
-    /// A search for a path has found persons who together know too few objects, so there is no assignment.
+    /// A search for a path has found a Hall violator: persons who together have too few objects. So there is no
+    /// assignment.
     Closed(HallSet),
 }
 

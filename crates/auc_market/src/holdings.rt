@@ -1,4 +1,4 @@
-//! The state of a phase: the prices, who holds each object, and by which arc each person holds his.
+//! The state of a phase: the prices, the holder of each object, and the arc by which each person holds an object.
 
 ghost use Rattle.std.specs.Prelude.{◌≡◌, ◌≢◌, ◌<◌, ◌≤◌, ℕ, pos, length, replicate, set, IfOk};
 ghost use Rattle.auc_market.specs.Market.{holder_at, no_own, own_at};
@@ -8,19 +8,19 @@ use crate::scan::worth;
 use auc_rows::ShortArc;
 use std::alloc::{AllocError, Global};
 
-/// Stands for the holder of an object that nobody holds, and for the object of a person who holds none.
+/// Marks an object that nobody holds, in place of its holder; and a person who holds nothing, in place of the object.
 pub const NOBODY: u32 = 4_294_967_295;
 
-/// Stands for the arc of a person who holds no object.
+/// Marks a person who holds no object, in place of the arc.
 pub(crate) const NO_OWN: ShortArc = ShortArc {
     object: NOBODY,
     cost: 0,
 };
 
-/// Stands for what a person pays who holds nothing: no arc is worth less.
+/// In place of the own value of a person who holds nothing: no arc has a lower value.
 const NOTHING: i64 = -17_592_186_044_416;
 
-/// Prices in scaled costs and holders, both indexed by object, and the arcs by which persons hold, indexed by person.
+/// Prices in scaled costs and holders, both indexed by object, and own arcs, indexed by person.
 #[derive(Drop)]
 pub struct Holdings {
     pub prices: Vec<i64>,
@@ -29,7 +29,7 @@ pub struct Holdings {
 }
 
 impl Holdings {
-    /// At these prices nobody holds anything.
+    /// Starts at these prices, with no holder.
     pub(crate) fn new(alloc: Global, persons: u32, prices: Vec<i64>) -> Result<Holdings, AllocError>
         ensures prices { IfOk result (λ m. m.prices.items ≡ prices.items) }
         ensures holders { IfOk result (λ m. m.holders.items ≡ replicate (length prices.items) NOBODY) }
@@ -44,7 +44,7 @@ impl Holdings {
         })
     }
 
-    /// Nobody holds anything any more, and the prices stay.
+    /// Removes all holders; prices stay.
     pub(crate) fn open(&mut self)
         ensures prices { self.new.prices.items ≡ self.old.prices.items }
         ensures holders { self.new.holders.items ≡ replicate (length self.old.holders.items) NOBODY }
@@ -58,7 +58,7 @@ impl Holdings {
         }
     }
 
-    /// Nobody holds anything any more, and nothing has a price.
+    /// Removes all holders, and sets all prices to 0.
     pub(crate) fn empty(&mut self)
         ensures prices { self.new.prices.items ≡ replicate (length self.old.prices.items) (pos 0) }
         ensures holders { self.new.holders.items ≡ replicate (length self.old.holders.items) NOBODY }
@@ -70,7 +70,7 @@ impl Holdings {
         self.open();
     }
 
-    /// A person leaves his object, which has no price then.
+    /// A person leaves the object held, whose price is then 0.
     pub(crate) fn leave(&mut self, person: u32)
         requires person { person < length self.old.owns.items }
         requires price { (own_at self.old.owns.items person).object < length self.old.prices.items }
@@ -85,7 +85,8 @@ impl Holdings {
         self.owns[person as usize] = NO_OWN;
     }
 
-    /// The object of a bid is the bidder's, the amount is its price, and who has held it has none; gives him.
+    /// Awards the object of a bid to the bidder, at the bid's amount; returns the holder before, who then holds
+    /// nothing.
     #[inline(always)]
     pub(crate) fn award(&mut self, person: u32, bid: Bid) -> u32
         requires price { bid.arc.object < length self.old.prices.items }
@@ -105,8 +106,8 @@ impl Holdings {
         self.prices[object] = bid.amount;
         self.holders[object] = person;
         self.owns[person as usize] = bid.arc;
-        // Where nobody has held it the bidder's own arc is written again, so that there is no branch: it would be
-        // guessed wrongly where a chain of bids ends.
+        // Where nobody held it, the bidder's own arc is written again, so that there is no branch: it would be
+        // mispredicted where a chain of bids ends.
         let (last, own) = if earlier == NOBODY {
             (person, bid.arc)
         } else {
@@ -137,7 +138,7 @@ impl Holdings {
         until
     }
 
-    /// Who holds an object; NOBODY where nobody does.
+    /// The holder of an object; NOBODY where there is none.
     #[inline]
     pub(crate) fn holder_of(&self, object: u32) -> u32
         ensures { result ≡ holder_at self.now.holders.items object }
@@ -149,7 +150,7 @@ impl Holdings {
         }
     }
 
-    /// What a person pays for what he holds, by sums that wrap.
+    /// The value of the arc by which a person holds an object, by sums that wrap.
     #[inline]
     pub(crate) fn own_worth(&self, scale: i64, person: u32) -> i64 {
         if person as usize >= self.owns.len() {

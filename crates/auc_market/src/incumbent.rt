@@ -1,5 +1,4 @@
-//! The incumbent: what persons held when each had an object last. A run that is stopped answers with it, at the prices
-//! of the stop.
+//! The incumbent: the last full assignment. A run that is stopped answers with it, at the prices of the stop.
 
 ghost use Rattle.std.specs.Prelude.{◌≡◌, true, length};
 ghost use Rattle.auc_market.specs.Incumbent.{AreSetAside};
@@ -9,8 +8,8 @@ use crate::holdings::Holdings;
 use auc_rows::ShortArc;
 use std::mem;
 
-/// Who held each object, indexed by object; by which arc each person held his, indexed by person; and whether each
-/// person had one.
+/// The holder of each object, indexed by object; the own arc of each person, indexed by person; and whether each person
+/// had an object.
 #[derive(Drop)]
 pub(crate) struct Incumbent {
     pub(crate) holders: Vec<u32>,
@@ -19,8 +18,7 @@ pub(crate) struct Incumbent {
 }
 
 impl Holdings {
-    /// Where each person has an object, what they hold is the incumbent from now on, and these holdings are to be
-    /// opened.
+    /// Where each person has an object, these holdings become the incumbent. The holdings are to be opened afterwards.
     pub(crate) fn set_aside(&mut self, incumbent: &mut Incumbent)
         ensures prices { self.new.prices ≡ self.old.prices }
         ensures whole { HaveObjects (length self.old.owns.items) self.old.owns.items → (incumbent.new.is_whole ≡ true)

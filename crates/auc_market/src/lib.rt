@@ -1,13 +1,16 @@
-//! The market: prices, who holds what, and all moves that change them. A bid is an award at once (Gauss-Seidel), and
-//! what always holds is said once, on [`Market`].
+//! The kernel of the direct solver: prices, holders, and all moves that change them.
 //!
-//! Which moves are made, and when, is the caller's: no law depends on it. Nothing outside of this crate changes a
-//! price, or who holds an object, but by these moves. What a market has come to is handed out as [`Holdings`], which
-//! nothing takes back.
+//! The method is the auction algorithm (Bertsekas, 1979) in its Gauss-Seidel form: a bid is an award at once. Shortest
+//! augmenting paths by Dijkstra's search and price refinement (Goldberg and Kennedy, 1995) are moves too.
 //!
-//! `market.rt` has the laws and the moves between phases, `phase.rt` a phase. Below it are `turns.rt` and `chain.rt`
-//! (chains of bids, which `pace.rt` ends by a search), `step.rt` (a bid), `path.rt` (an augmenting path) and
-//! `refine.rt` (price refinement); `starts.rt` seats persons at start prices before there is a market.
+//! A bid takes O(arcs of the person), or O(1) by a candidate list; a path at most O(arcs * log arcs).
+//!
+//! Proved: each move keeps the nine laws on [`Market`]. Nothing is proved of what a search proposes; a move tries it.
+//! Which moves are made, and when, is the caller's choice. No law depends on it.
+//!
+//! `market.rt` has the laws and the moves between phases, `phase.rt` a phase. Chains of bids are in `turns.rt` and
+//! `chain.rt`, a bid in `step.rt`, and `pace.rt` says when a search ends a chain. `path.rt` takes augmenting paths,
+//! `refine.rt` refines prices, and `starts.rt` seats persons at start prices.
 #![tactic(auto)]
 
 mod best;

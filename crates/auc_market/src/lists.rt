@@ -1,4 +1,4 @@
-//! The lists of candidates of all persons, by which most bids of long rows look at a few arcs alone.
+//! The candidate lists of all persons: with them most bids in long rows scan a few arcs only.
 
 ghost use Rattle.std.specs.Prelude.{◌≡◌, ◌<◌, List, ℤ, All, length, IfOk};
 ghost use Rattle.auc_graph.specs.Price.{IsPrice};
@@ -11,12 +11,12 @@ use crate::shortlist::{ROOM, Shortlist, Values};
 use auc_rows::FlatRows;
 use std::alloc::{AllocError, Global};
 
-/// With so many arcs and more a row has a list of its best ones: with fewer a branch that is guessed wrongly takes as
-/// long as the list spares.
+/// The least number of arcs of a row that has a candidate list. In shorter rows a mispredicted branch takes as long as
+/// the list saves.
 pub const LONG: usize = 48;
 
-/// A list for each person, indexed by person, where most arcs stand in long rows; else none. And what they are made
-/// with.
+/// A candidate list for each person, indexed by person, where most arcs are in long rows; else none. And scratch space
+/// for making lists.
 #[derive(Drop)]
 pub(crate) struct Lists {
     pub(crate) lists: Vec<Shortlist>,
@@ -24,8 +24,8 @@ pub(crate) struct Lists {
 }
 
 impl Lists {
-    /// Lists with no arc, which say nothing. 176 bytes a person where most arcs stand in long rows. Where fewer do,
-    /// lists take more memory than they are worth: each person would have one.
+    /// Empty lists, which give no best arc. 176 bytes a person where most arcs are in long rows. Where fewer are, lists
+    /// cost more memory than they gain: each person would have one.
     pub(crate) fn new(alloc: Global, rows: &FlatRows) -> Result<Lists, AllocError>
         ensures { IfOk result (λ l. (prices : List ℤ) → Kept rows.now prices l.lists.items) }
     {
@@ -48,7 +48,7 @@ impl Lists {
         })
     }
 
-    /// The best arc of a person at these prices: by his list where he has one and his row is long, and else by a pass
+    /// A person's best arc at these prices: by the candidate list where the row is long and has one, else by a pass
     /// over the row.
     #[inline(always)]
     pub(crate) fn best(&mut self, rows: &FlatRows, scale: i64, person: u32, prices: &[i64]) -> Best

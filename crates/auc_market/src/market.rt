@@ -1,20 +1,24 @@
-//! The market: rows, eps, prices and who holds what, and all moves that change them. What always holds of it is said
-//! here, once, on its type:
+//! The market: rows, eps, prices, holders, and all moves that change them. Its invariants, on its type:
 //!
 //! 1. Each object has one price and one place for a holder, and each person has one place for an arc.
 //! 2. A price is from 0 to 2^61.
 //! 3. The holder of an object holds that object.
 //! 4. A person who holds an object is its holder, so no object is held twice.
-//! 5. A person holds by an arc of his row.
+//! 5. A person holds by an arc of the person's row.
 //! 6. Epsilon-complementary slackness: no other arc of that row has a reduced cost that is lower by more than eps.
 //! 7. Where there are more objects than persons, an object that nobody holds has price 0.
 //! 8. Eps is from 1 to the scaled spread of the costs, or 1; and each person has an arc.
-//! 9. Each candidate list is right: no arc that it leaves out is worth less than its bound.
+//! 9. Each candidate list is right: no arc that it leaves out has a value below its bound.
 //!
-//! A move takes the market from one such position to another: [`Market::bid`] (a bid is an award, as in Gauss-Seidel),
-//! [`Market::path`] (a shortest augmenting path, or the Hall violator that it has reached), [`Market::refine`] (price
-//! refinement) and [`Market::open`] (the next eps). When each is made is strategy, and no answer depends on it. Starts
-//! are seated before there is a market (`starts.rt`, `adopt.rt`).
+//! A move takes the market from one such state to another:
+//!
+//! - [`Market::bid`]: a bid is an award, as in Gauss-Seidel.
+//! - [`Market::path`]: a shortest augmenting path, or the Hall violator that the search has reached.
+//! - [`Market::refine`]: price refinement.
+//! - [`Market::open`]: the next eps.
+//!
+//! When each is made is strategy, and no answer depends on it. Starts are seated before there is a market (`starts.rt`,
+//! `adopt.rt`).
 
 ghost use Rattle.std.specs.Prelude.{true, ◌≡◌, ◌≢◌, ◌≤◌, ◌<◌, ℕ, pos, length, IfErr, IfNone, IfOk, IfSome, OnOk};
 ghost use Rattle.auc_rows.specs.Rows.{EachHasArc};
@@ -38,10 +42,10 @@ use auc_rows::FlatRows;
 use std::alloc::{AllocError, Global};
 use std::marker::Model;
 
-/// The last eps: prices within 1 of slackness in scaled costs show that a cost is least.
+/// The last eps: with epsilon-complementary slackness within 1, in scaled costs, an assignment has the least cost.
 pub const LAST_EPS: i64 = 1;
 
-/// The rows; eps, in scaled costs; prices, holders and arcs; candidate lists; and room for searches.
+/// The rows; eps, in scaled costs; prices, holders and own arcs; candidate lists; and room for searches.
 #[derive(Drop)]
 pub struct Market<'a> {
     alloc: Global,
@@ -64,7 +68,7 @@ impl<'a> Model for Market<'a> {
 }
 
 impl<'a> Market<'a> {
-    /// A market at these prices, and the last eps, in which nobody holds anything.
+    /// A market at these prices, at the last eps, in which nobody holds anything.
     ///
     /// # Errors
     ///
@@ -83,7 +87,7 @@ impl<'a> Market<'a> {
         Market::with(alloc, rows, holdings)
     }
 
-    /// The market in which persons hold this, at the last eps.
+    /// The market with these holdings, at the last eps.
     pub(crate) fn with(
         alloc: Global,
         rows: &'a FlatRows,
@@ -113,7 +117,7 @@ impl<'a> Market<'a> {
         })
     }
 
-    /// What holds of each market, for a caller whose proof wants it. It does nothing.
+    /// The laws of each market, for a caller whose proof needs them. It does nothing.
     #[inline(always)]
     pub fn law(&self)
         ensures { Law self.now }
@@ -130,7 +134,7 @@ impl<'a> Market<'a> {
         rows.persons()
     }
 
-    /// How many persons hold an object. O(persons).
+    /// The number of persons who hold an object. O(persons).
     pub fn held(&self) -> u32 {
         let mut held: u32 = 0;
         for own in &self.holdings.owns {
@@ -141,8 +145,8 @@ impl<'a> Market<'a> {
         held
     }
 
-    /// The mean spread of the rows of at least so many persons, or of all, at the present prices, in scaled costs, and
-    /// at least 1: eps of a phase may be as great.
+    /// The mean spread of the rows at the present prices, in scaled costs, and at least 1: eps of a phase may be as
+    /// great. At least `sample` persons are sampled, or all.
     pub fn spread(&self, sample: u32) -> i64
         ensures { IsEpsOf self.now.table result }
     {
@@ -184,8 +188,8 @@ impl<'a> Market<'a> {
         self.holdings.free_from(from, until, person, other)
     }
 
-    /// A free person bids, and has the object; gives who has held it, or NOBODY. None where the bid would be above the
-    /// greatest price: nothing has changed then.
+    /// A free person bids and gets the object. Returns the holder before, or NOBODY. None where the bid would be above
+    /// the greatest price: nothing has changed then.
     #[inline(always)]
     pub(crate) fn bid(&mut self, person: u32) -> Option<u32>
         requires { IsFree self.old person }
@@ -197,12 +201,12 @@ impl<'a> Market<'a> {
         self.holdings.step(rows, self.eps, person, lists)
     }
 
-    /// A free person goes by a shortest augmenting path where there is one; gives who is free then, and how many arcs
-    /// were looked at.
+    /// A free person takes a shortest augmenting path where there is one. Returns the free person afterwards, and the
+    /// number of arcs scanned.
     ///
     /// # Errors
     ///
-    /// Persons who together know too few objects, or memory was refused.
+    /// A Hall violator, or memory was refused.
     pub(crate) fn path(&mut self, person: u32) -> Result<Way, Halt>
         requires { IsFree self.old person }
         ensures way { IfOk result (λ w. IsMove person self.old self.new w.free) }
@@ -214,9 +218,9 @@ impl<'a> Market<'a> {
             .find_way(self.alloc, rows, self.eps, person, search)
     }
 
-    /// Raises prices, with so many looks at persons, until each is within 1 of his best: then nothing costs less than
-    /// what persons hold, and eps is the last one. Gives whether that came to its end; where it was begun and hasn't,
-    /// nobody holds anything any more.
+    /// Price refinement: raises prices, with at most `looks` scans of persons, until each person is within 1 of the
+    /// best. The assignment has the least cost then, and eps is the last one. Returns whether that was reached. Where
+    /// the refinement was begun but not finished, nobody holds anything afterwards.
     pub fn refine(&mut self, looks: u64) -> Result<bool, AllocError>
         requires square { self.old.table.objects ≡ length self.old.table.rows }
         ensures refined { OnOk result (IsRefinement self.old self.new) }
@@ -237,7 +241,7 @@ impl<'a> Market<'a> {
         Ok(true)
     }
 
-    /// The next phase begins at this eps: prices stay, and nobody holds anything.
+    /// Begins the next phase at this eps: prices stay, and nobody holds anything.
     pub fn open(&mut self, eps: i64)
         requires eps { IsEpsOf self.old.table eps }
         requires square { self.old.table.objects ≡ length self.old.table.rows }
@@ -248,7 +252,7 @@ impl<'a> Market<'a> {
         self.holdings.open();
     }
 
-    /// What it has come to. Where it was stopped, the incumbent, if there is one, at the present prices.
+    /// The result. Where the run was stopped, it is the incumbent, if there is one, at the present prices.
     pub fn into_holdings(self, ending: Ending) -> Holdings
         ensures { AreHandedOn ending self.entry result.prices.items result.holders.items result.owns.items }
     {

@@ -1,19 +1,19 @@
-//! How long a phase bids before it searches. It sees numbers of bids and of arcs alone, so no answer depends on it.
+//! When a chain of bids searches for a path. Only numbers of bids and arcs are seen here, so no answer depends on it.
 
 use crate::lists::LONG;
 use crate::market::LAST_EPS;
 use crate::shortlist::ROOM;
 use auc_rows::FlatRows;
 
-/// The numbers of the strategy by which phases are paced.
+/// The tuning numbers that pace a phase.
 #[derive(Clone, Copy)]
 pub struct Pacing {
-    /// How many arcs of a bid an arc of a search for a path takes the time of.
+    /// The time of one arc of a path search, in arcs of a bid.
     pub search: u64,
-    /// How many times as long as a search a chain may take before the last phase; and which part of all arcs the first
-    /// search is taken to look at.
+    /// Before the last phase a chain may take this many times as long as a search. And the first search is estimated to
+    /// scan all arcs divided by this number.
     pub early: u64,
-    /// How many arcs are looked at between two questions to a watch, about.
+    /// About how many arcs are scanned between two questions to a watch.
     pub slice: u64,
 }
 
@@ -21,27 +21,27 @@ pub struct Pacing {
 #[derive(Clone, Copy)]
 pub struct Pace {
     pacing: Pacing,
-    // How many arcs a bid looks at, about; and how many bids take as long as a search.
+    // About how many arcs a bid scans; and how many bids take as long as a search.
     arcs_a_bid: u64,
     search: u64,
-    // How many times as long as a search a chain may take; and so many bids, each of which displaces somebody, are
-    // they.
+    // How many times as long as a search a chain may take. `patience` is that as a number of bids, each of which
+    // displaces a person.
     times: u64,
     pub(crate) patience: u64,
-    // How many there were since the last search, where a slice of a phase has ended.
+    // The number of such bids since the last search, where a slice of a phase has ended.
     pub(crate) walked: u64,
-    // How many bids a phase makes between two questions to a watch.
+    // The number of bids of a phase between two questions to a watch.
     pub(crate) slice: u64,
-    /// How many bids the phase has made.
+    /// The number of bids that the phase has made.
     pub made: u64,
 }
 
 impl Pace {
-    /// Before the first phase: a search is taken to look at a part of all arcs.
+    /// Before the first phase: a search is estimated at a part of all arcs.
     pub fn new(rows: &FlatRows, pacing: Pacing) -> Pace {
         let mean = rows.arc_count().checked_div(rows.persons() as usize);
         let mean = mean.unwrap_or(1).max(1);
-        // Those of the mean row, or of a list.
+        // The arcs of the mean row, or of a candidate list.
         let arcs_a_bid = if mean < LONG { mean } else { ROOM } as u64;
         let arcs = (rows.arc_count() as u64).saturating_mul(pacing.search);
         let arcs = arcs.checked_div(pacing.early).unwrap_or(arcs);
@@ -68,8 +68,7 @@ impl Pace {
         self.patience = self.search.saturating_mul(self.times).max(1);
     }
 
-    /// A search has looked at so many arcs: half of what was known of searches before it counts, and half of what it
-    /// took.
+    /// Takes in a search that has scanned `looked` arcs: the new estimate is the mean of the old one and this search.
     pub(crate) fn learn(&mut self, looked: u64) {
         let bids = looked
             .saturating_mul(self.pacing.search)

@@ -1,5 +1,5 @@
-//! A free person goes by an augmenting path that a search has proposed. What it proposes is tried: prices rise only
-//! where each holder stays within eps of his best, and a person takes an object only where he is.
+//! A free person takes an augmenting path that a search has proposed. The proposal is tried: prices rise only where
+//! each holder stays within eps of the best, and a person takes an object only where that keeps the person within eps.
 
 ghost use Rattle.std.specs.Prelude.{◌≡◌, ◌≢◌, ◌<◌, ℤ, List, IsTrue, false, length};
 ghost use Rattle.auc_letters.specs.Price.{IsEps};
@@ -18,8 +18,8 @@ use auc_graph::MOST_PRICE;
 use auc_rows::FlatRows;
 
 impl Holdings {
-    /// Notes the prices as they are. Gives whether each of these objects has a holder, and none of their prices would
-    /// fall, or pass the greatest.
+    /// Notes the present prices. Returns whether each of these objects has a holder, and none of their prices would
+    /// fall or pass the greatest.
     fn may_rise(&self, rises: &mut [Rise]) -> bool
         ensures { IsTrue result → AreRises self.now.prices.items self.now.holders.items rises.new }
     {
@@ -41,7 +41,7 @@ impl Holdings {
         true
     }
 
-    /// The prices rise.
+    /// Raises the prices.
     fn raise(&mut self, rises: &[Rise])
         requires { AreRises self.old.prices.items self.old.holders.items rises.now }
         ensures raised { AreRaised self.old.prices.items self.new.prices.items rises.now }
@@ -53,7 +53,7 @@ impl Holdings {
         }
     }
 
-    /// The prices are what they were before they rose.
+    /// Sets the prices back to what they were before they rose.
     fn take_back(&mut self, rises: &[Rise])
         ensures prices { (prices : List ℤ) → AreRises prices self.old.holders.items rises.now
             → AreRaised prices self.old.prices.items rises.now → self.new.prices.items ≡ prices }
@@ -68,7 +68,7 @@ impl Holdings {
         }
     }
 
-    /// Whether a person is within eps of his best, where he has an object.
+    /// Whether a person is within eps of the best, where the person has an object.
     pub(crate) fn is_within(&self, rows: &FlatRows, eps: i64, person: u32) -> bool
         requires eps { IsEps eps }
         requires stands { Stands rows.now any_eps self.now.prices.items self.now.holders.items self.now.owns.items }
@@ -82,7 +82,7 @@ impl Holdings {
         own.object == NOBODY || is_slack(rows, eps, self.prices.as_slice(), person, own)
     }
 
-    /// Whether each holder of these objects is within eps of his best.
+    /// Whether each holder of these objects is within eps of the best.
     fn are_within(&self, rows: &FlatRows, eps: i64, rises: &[Rise]) -> bool
         requires eps { IsEps eps }
         requires stands { Stands rows.now any_eps self.now.prices.items self.now.holders.items self.now.owns.items }
@@ -96,8 +96,8 @@ impl Holdings {
         true
     }
 
-    /// Prices rise as a search proposes, where each person stays within eps of his best; else nothing changes. Gives
-    /// whether they have.
+    /// Raises prices as a search proposes, where each person stays within eps of the best; else nothing changes.
+    /// Returns whether they have risen.
     fn rise(&mut self, rows: &FlatRows, eps: i64, rises: &mut [Rise]) -> bool
         requires eps { IsEps eps }
         requires sound { IsFlatTable rows.now }
@@ -117,8 +117,9 @@ impl Holdings {
         false
     }
 
-    /// A free person takes the object of an arc of his row, at its price, where he is within eps of his best by it.
-    /// Gives who is free then: whoever has held it, NOBODY where nobody has; himself where he may not.
+    /// A free person takes the object of an arc of the person's row, at its price, where that is within eps of the
+    /// best. Returns the free person afterwards: the holder before, or NOBODY where there was none. Where it isn't
+    /// within eps, this is the same person.
     fn take_at_price(&mut self, rows: &FlatRows, eps: i64, person: u32, place: u32) -> u32
         requires eps { IsEps eps }
         requires sound { IsFlatTable rows.now }
@@ -140,7 +141,7 @@ impl Holdings {
         self.award(person, Bid { amount, arc })
     }
 
-    /// A free person goes by a path that was proposed. Gives who is free then, NOBODY where the path is whole.
+    /// A free person takes a proposed path. Returns the free person afterwards; NOBODY where the whole path was taken.
     pub(crate) fn go(
         &mut self,
         rows: &FlatRows,

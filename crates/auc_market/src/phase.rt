@@ -1,5 +1,5 @@
-//! A phase: the persons who have no object begin in order, and bid, two in turn, until each has one. It goes in slices,
-//! before each of which somebody is asked whether it goes on.
+//! A phase: the persons who have no object bid in order, two in turn, until each has one. It goes in slices. Before
+//! each slice the watch is asked whether the run goes on.
 
 ghost use Rattle.std.specs.Prelude.{ℕ, ℤ, List, true, false, ◌≡◌, ◌-◌, ◌<◌, ◌^◌, IfErr, IfOk, IfNone, IfSome};
 ghost use Rattle.auc_claim.specs.declared.reason.Reason.{Reason};
@@ -18,7 +18,7 @@ use crate::pace::Pace;
 use crate::watch::{Progress, Watch, may_go_on};
 use auc_claim::Reason;
 
-/// Whether bids have run out. Any other ending of a slice is one of its phase.
+/// Whether bids have run out. Any other ending of a slice is also the ending of its phase.
 fn ran_out(ending: Ending) -> bool
     ensures yes { result ≡ true → ending ≡ Ending.Stopped Reason.Bids }
     ensures no { result ≡ false
@@ -38,7 +38,7 @@ fn ran_out(ending: Ending) -> bool
 }
 
 impl<'a> Market<'a> {
-    /// Plays a slice of a phase, of at most so many bids, in which those bid who hold nothing yet.
+    /// Plays a slice of a phase, of at most `bids` bids, in which the persons who hold nothing bid.
     fn play_slice(&mut self, bids: u64, pace: &mut Pace) -> Result<Ending, Halt>
         ensures slice { IfOk result (λ e. IsSlice bids e self.old self.new) }
         ensures halt { IfErr result (IsHalt self.old.table) }
@@ -57,8 +57,8 @@ impl<'a> Market<'a> {
         Ok(Ending::Sold)
     }
 
-    /// Plays a phase of at most so many bids, in which those bid who hold nothing yet. Where the watch says no, it ends
-    /// as one whose bids have run out.
+    /// Plays a phase of at most `bids` bids, in which the persons who hold nothing bid. Where the watch says no, it
+    /// ends as a phase whose bids have run out.
     pub fn play<W: Watch>(
         &mut self,
         bids: u64,
@@ -94,8 +94,8 @@ impl<'a> Market<'a> {
         }
     }
 
-    /// The same of a phase that is tried with `few` bids: none where these have run out, though a phase may make more,
-    /// or there are none of them.
+    /// The same for a phase that is tried with `few` bids. None where these have run out though a phase may make more,
+    /// or where `few` is 0.
     pub fn try_phase<W: Watch>(
         &mut self,
         bids: u64,

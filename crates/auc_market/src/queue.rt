@@ -1,11 +1,12 @@
-//! Persons who wait to be looked at: who came first is looked at first.
+//! A first-in, first-out queue of persons.
 
 use crate::holdings::NOBODY;
 use std::alloc::{AllocError, Global};
 
-/// A linked list in one vector: for each person who waits who comes after him, or himself where he is the last, and
-/// NOBODY for one who doesn't wait; and who is the first and the last one. The first is NOBODY where nobody waits. A
-/// `VecDeque` with a flag for each person took 1.1 of the instructions of a whole run that refines.
+/// A linked list in one vector: for each person in the queue the next one. The last person points to itself, and a
+/// person outside the queue to NOBODY. And the first and the last person of the queue; the first is NOBODY where the
+/// queue is empty. A `VecDeque` with a flag for each person took 1.1 times the instructions of a whole run with
+/// refinement.
 #[derive(Drop)]
 pub(crate) struct Queue {
     next: Vec<u32>,
@@ -14,7 +15,7 @@ pub(crate) struct Queue {
 }
 
 impl Queue {
-    /// All persons wait, in order.
+    /// All persons are in the queue, in order.
     pub(crate) fn of_all(alloc: Global, persons: u32) -> Result<Queue, AllocError> {
         let mut next = vec![in alloc; NOBODY; persons as usize]?;
         let last = persons.saturating_sub(1);
@@ -28,7 +29,7 @@ impl Queue {
         })
     }
 
-    /// A person waits, behind all others; he stays where he is where he waits already.
+    /// Adds a person at the end; a person in the queue keeps its place.
     #[inline(always)]
     pub(crate) fn push(&mut self, person: u32) {
         let place = person as usize;
@@ -44,7 +45,7 @@ impl Queue {
         self.last = person;
     }
 
-    /// The first one waits no more.
+    /// Removes the first person.
     #[inline(always)]
     pub(crate) fn pop(&mut self) {
         let person = self.first;

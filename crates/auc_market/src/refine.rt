@@ -1,14 +1,13 @@
-//! Price refinement: whether what persons hold after a phase costs least already. Prices rise until each person is
-//! within 1 of his best, and nobody gets or leaves an object: where that comes to its end, what they hold costs least,
-//! and the phases that are left aren't played.
+//! Price refinement: tests whether the assignment of a phase has the least cost already. Prices rise until each person
+//! is within 1 of the best, and nobody gets or leaves an object. Where that comes to its end, the assignment has the
+//! least cost, and the phases that are left aren't played.
 //!
-//! A person who would do better with another object, by more than 1, raises its price until he wouldn't, and then
-//! whoever holds it is looked at again. Where what they hold costs more than need be, that goes round in circles, so it
-//! is given up after some time. It is a step between two phases of Goldberg and Kennedy (1995), by labels that are
+//! Where another object is better for a person by more than 1, its price rises until it isn't. The holder of that
+//! object is then checked again. Where the assignment doesn't have the least cost, prices rise along a cycle, so the
+//! test is given up after some time. It is a step between two phases of Goldberg and Kennedy (1995), by labels that are
 //! corrected first come, first served (Bellman, 1958; Moore, 1959).
 //!
-//! Of who waits nothing is proved: prices rise and stay within range, and at the end each person is looked at once
-//! more.
+//! Nothing is proved of the queue. Prices rise and stay within range, and at the end each person is checked once more.
 
 ghost use Rattle.std.specs.Prelude.{true, false, ◌≡◌, ◌<◌, pos, ◌≤ℤ◌, All, IsTrue, length, IfOk, OnErr, OnOk};
 ghost use Rattle.auc_graph.specs.Assignment.{total};
@@ -41,7 +40,7 @@ impl Holdings {
         true
     }
 
-    /// Whether each person who has an object is within eps of his best. O(arcs).
+    /// Whether each person who has an object is within eps of the best. O(arcs).
     pub(crate) fn all_within(&self, rows: &FlatRows, eps: i64) -> bool
         requires eps { IsEps eps }
         requires stands { Stands rows.now any_eps self.now.prices.items self.now.holders.items self.now.owns.items }
@@ -55,8 +54,8 @@ impl Holdings {
         true
     }
 
-    /// The price of an object that a person would rather have rises by so much, and whoever holds it waits. Gives
-    /// whether that can be: not where he holds it himself, by another arc, nor where the price would pass the greatest.
+    /// Raises the price of an object that a person prefers by `more`, and adds its holder to the queue. Returns whether
+    /// that is possible: not where the person holds it by another arc, nor where the price would pass the greatest.
     #[inline(always)]
     fn lift(&mut self, person: u32, object: u32, more: i64, queue: &mut Queue) -> bool
         requires { All IsPrice self.old.prices.items }
@@ -77,8 +76,8 @@ impl Holdings {
         true
     }
 
-    /// Looks at the person who waits first. Where his best arc is worth less to him than his own one less 1, the price
-    /// of its object rises until it isn't. Gives whether it goes on.
+    /// Checks the first person of the queue. Where the value of the best arc is below the value of the own arc less 1,
+    /// the price of the best object rises until it isn't. Returns whether the refinement goes on.
     #[inline(always)]
     fn look(&mut self, rows: &FlatRows, person: u32, lists: &mut Lists, queue: &mut Queue) -> bool
         requires person { person < length rows.now.rows }
@@ -106,7 +105,7 @@ impl Holdings {
         true
     }
 
-    /// Raises prices, with so many looks at persons, until nobody waits; gives whether that came to its end.
+    /// Raises prices, with at most `looks` scans of persons, until the queue is empty; returns whether it is.
     fn lift_all(
         &mut self,
         rows: &FlatRows,
@@ -134,8 +133,8 @@ impl Holdings {
         queue.first == NOBODY
     }
 
-    /// Raises prices, with so many looks at persons, until each is within 1 of his best; gives whether that came to its
-    /// end, and each has an object.
+    /// Raises prices, with at most `looks` scans of persons, until each person is within 1 of the best. Returns whether
+    /// that was reached and each person has an object.
     pub(crate) fn refine(
         &mut self,
         alloc: Global,

@@ -1,4 +1,4 @@
-//! A person's best arc, in one pass over his row that has no branch by the values.
+//! A person's best arc, in one pass over the row that has no branch by the values.
 
 ghost use Rattle.std.specs.Prelude.{◌≡◌, ◌<◌, ◌+◌, ◌^◌, ◌≤ℤ◌, All, length};
 ghost use Rattle.auc_graph.specs.Price.{IsPrice};
@@ -7,8 +7,8 @@ ghost use Rattle.auc_market.specs.Scan.{IsFound, IsPricedRow, IsScale, IsValue, 
 
 use auc_rows::ShortArc;
 
-/// What a pass has found: the least value, the least one of the other arcs (the greatest number where there is none),
-/// and where the arc of the least value stands in the row.
+/// The result of a pass: the least value, the least value of the other arcs, and the place of the least value in the
+/// row. Where there are no other arcs, the second is the greatest number.
 #[derive(Clone, Copy)]
 pub(crate) struct Found {
     pub(crate) value: i64,
@@ -17,14 +17,14 @@ pub(crate) struct Found {
 }
 
 impl Found {
-    /// With one value more, of the arc that stands here in the row.
+    /// With one value more, of the arc at this place of the row.
     #[inline(always)]
     fn with(self, value: i64, place: usize) -> Found
         ensures { Lowered self value place result }
     {
         let is_less = value < self.value;
-        // Each number is chosen apart, so that LLVM makes selects of them; by one branch for all three it would make a
-        // branch.
+        // Each number is chosen by itself, so that LLVM makes selects of them; with one `if` for all three it would
+        // make a branch.
         let second = if is_less {
             self.value
         } else if value < self.second {
@@ -41,9 +41,8 @@ impl Found {
         }
     }
 
-    /// With two values more, of the arc that stands here in the row and of the next one. They are held against each
-    /// other first: so a pair waits for two comparisons of the pair before it, where one by one each value waits for
-    /// three.
+    /// With two values more, of the arc at this place of the row and of the next one. They are compared with each other
+    /// first. So a pair waits for two comparisons of the pair before it, where one by one each value waits for three.
     #[inline(always)]
     fn with_two(self, one: i64, other: i64, place: usize) -> Found
         requires next { place + 1 < 2 ^ 64 }
@@ -66,13 +65,13 @@ impl Found {
     }
 }
 
-/// What an arc of this cost is worth at this price, by sums that wrap: for searches, whose finds are tried.
+/// The value of an arc of this cost at this price, by sums that wrap: for searches, whose proposals are tried.
 #[inline(always)]
 pub(crate) fn worth(scale: i64, cost: i32, price: i64) -> i64 {
     scale.wrapping_mul(i64::from(cost)).wrapping_add(price)
 }
 
-/// The same of an arc; the greatest number where its object has no price.
+/// The same for an arc; the greatest number where its object has no price.
 #[inline(always)]
 pub(crate) fn worth_of(scale: i64, arc: ShortArc, prices: &[i64]) -> i64 {
     if (arc.object as usize) < prices.len() {
@@ -82,7 +81,8 @@ pub(crate) fn worth_of(scale: i64, arc: ShortArc, prices: &[i64]) -> i64 {
     }
 }
 
-/// What an arc is worth at these prices: its scaled cost and the price of its object.
+/// The value of an arc at these prices: its scaled cost plus the price of its object. It is the reduced cost, but for
+/// the person's dual; less is better.
 #[inline(always)]
 pub(crate) fn value_of(scale: i64, arc: ShortArc, prices: &[i64]) -> i64
     requires scale { IsScale scale }

@@ -1,8 +1,8 @@
-//! The search for a shortest augmenting path, from a free person to an object that nobody holds: Dijkstra's, over the
-//! rows of those who are reached. A hop is as long as the reduced cost of its arc.
+//! Dijkstra's search for a shortest augmenting path, from a free person to an object that nobody holds, over the rows
+//! of the persons that are reached. The length of an edge is the reduced cost of its arc.
 //!
-//! Nothing is proved of what it finds, but that it ends: the market tries it before it goes by it (`path.rt`). So sums
-//! may wrap here.
+//! Of its result nothing is proved, but that the search ends: the market tries a path before it takes it (`path.rt`).
+//! So sums may wrap here.
 
 use crate::holdings::{Holdings, NOBODY};
 use crate::scan::worth;
@@ -10,11 +10,12 @@ use auc_rows::FlatRows;
 use std::alloc::{AllocError, Global};
 use std::collections::BinaryHeap;
 
-/// How near the free person is to himself. How near an object is, is this less the length of the path to it.
+/// `near` of the free person. `near` of an object is this less the length of the path to it: std's heap is a max-heap.
 const NEAREST: u64 = 4_611_686_018_427_387_904;
 
-/// What the search of this number knows of an object: how near it is; by which arc of his row its taker would take it;
-/// and the object that he would leave for it, NOBODY where he is the free person.
+/// The label of an object, valid in the search of this number. `place` is the place, in the taker's row, of the arc by
+/// which the taker would get the object. `before` is the object that the taker would leave for it, NOBODY for the free
+/// person.
 #[derive(Clone, Copy)]
 struct Label {
     near: u64,
@@ -23,7 +24,7 @@ struct Label {
     before: u32,
 }
 
-/// Of an object that no search has come to.
+/// The label of an object that no search has reached.
 const BLANK: Label = Label {
     near: 0,
     search: 0,
@@ -31,20 +32,20 @@ const BLANK: Label = Label {
     before: NOBODY,
 };
 
-/// An object, and how near it is.
+/// An object and its `near`.
 #[derive(Clone, Copy)]
 pub(crate) struct Settled {
     pub(crate) object: u32,
     near: u64,
 }
 
-/// Stands for the nearest object that nobody holds, where none has a label.
+/// In place of the closest object that nobody holds, where none has a label.
 const NOWHERE: Settled = Settled {
     object: NOBODY,
     near: 0,
 };
 
-/// A price that is to rise to an amount, and what it was before.
+/// A price that is to rise to an amount, and the price before.
 #[derive(Clone, Copy)]
 pub(crate) struct Rise {
     pub(crate) object: u32,
@@ -52,7 +53,7 @@ pub(crate) struct Rise {
     pub(crate) before: i64,
 }
 
-/// A person at this distance, who leaves an object for another one.
+/// A person at this distance, who would leave object `before` for another one.
 #[derive(Clone, Copy)]
 struct Taker {
     person: u32,
@@ -60,10 +61,16 @@ struct Taker {
     before: u32,
 }
 
-/// Room for searches: labels of all objects, with the number of the search at hand; the held objects that wait, the
-/// nearest first out; the nearest object that nobody holds; those that are settled, in order; how many arcs were looked
-/// at. And what it proposes: prices that rise, and by which arcs objects are taken, each by its place in the row of its
-/// taker.
+/// Room for searches:
+///
+/// - labels of all objects, with the number of the present search;
+/// - the heap of held objects, the closest first;
+/// - the closest object that nobody holds;
+/// - the settled objects in order;
+/// - the number of arcs scanned.
+///
+/// And the proposal of a search: prices that rise, and the arcs by which objects are taken, each by its place in the
+/// row of its taker.
 #[derive(Drop)]
 pub(crate) struct Search {
     labels: Vec<Label>,
@@ -91,8 +98,8 @@ impl Search {
         }
     }
 
-    /// Labels the objects of a taker's row that are nearer by him than before. None that is no nearer than the nearest
-    /// object that nobody holds: no path goes by it.
+    /// Relaxes the arcs of a taker's row: labels the objects that become closer through this person. An object that
+    /// isn't closer than the closest object that nobody holds is left out: no shortest path goes through it.
     fn relax(
         &mut self,
         rows: &FlatRows,
@@ -146,8 +153,8 @@ impl Search {
         Ok(())
     }
 
-    /// Searches from a free person on, the nearest object first, up to the nearest one that nobody holds. Gives whether
-    /// there is one in reach: what is to be done then say `rises` and `route`.
+    /// Searches from a free person on, the closest object first, up to the closest one that nobody holds. Returns
+    /// whether one can be reached: `rises` and `route` are then the proposal.
     pub(crate) fn find(
         &mut self,
         rows: &FlatRows,
@@ -190,14 +197,14 @@ impl Search {
         Ok(true)
     }
 
-    /// The nearest object that waits; none where no one does that is nearer than the nearest one that nobody holds.
+    /// The closest object in the heap; none where no object in it is closer than the closest one that nobody holds.
     fn next(&mut self) -> Option<Settled> {
         for _ in 0..u64::MAX {
             let (near, object) = self.heap.pop()?;
             if near <= self.end.near {
                 return None;
             }
-            // One that came nearer since then has an entry before this one.
+            // An object whose label was improved since then has an entry before this one.
             let place = object as usize;
             if place < self.labels.len() && self.labels[place].near == near {
                 return Some(Settled { object, near });
@@ -206,8 +213,8 @@ impl Search {
         None
     }
 
-    /// The price of each settled object is to rise by as much as it is nearer than the end. The route goes by the
-    /// labels from the end back to the free person.
+    /// Proposes that the price of each settled object rises by as much as it is closer than the end. The route follows
+    /// the labels from the end back to the free person.
     fn propose(&mut self, holdings: &Holdings) -> Result<(), AllocError> {
         for settled in &self.settled {
             let place = settled.object as usize;

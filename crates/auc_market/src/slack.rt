@@ -1,4 +1,4 @@
-//! Whether an arc of a person is within eps of his best, by a pass that ends at the first one that is better.
+//! Whether an arc of a person is within eps of the best, by a pass that ends at the first arc that is better.
 
 ghost use Rattle.std.specs.Prelude.{◌≡◌, ◌<◌, ◌≤ℤ◌, All, Contains, IsTrue, length};
 ghost use Rattle.auc_graph.specs.Price.{IsPrice};
@@ -11,7 +11,7 @@ ghost use Rattle.auc_market.specs.Scan.{IsPricedRow, short_value};
 use crate::scan::value_of;
 use auc_rows::{FlatRows, ShortArc};
 
-/// Whether no arc of a row is worth less than this.
+/// Whether no arc of a row has a value below this one.
 #[inline(never)]
 fn none_below(scale: i64, row: &[ShortArc], prices: &[i64], least: i64) -> bool
     requires { IsPricedRow scale prices.now row.now }
@@ -25,7 +25,7 @@ fn none_below(scale: i64, row: &[ShortArc], prices: &[i64], least: i64) -> bool
     true
 }
 
-/// Whether an arc of a person's row is within eps of his best at these prices.
+/// Whether an arc of a person's row is within eps of the best at these prices (epsilon-complementary slackness).
 pub(crate) fn is_slack(
     rows: &FlatRows,
     eps: i64,

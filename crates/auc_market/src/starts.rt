@@ -1,4 +1,4 @@
-//! What a run from start prices begins with: who keeps an object at them, and which prices stay.
+//! How a run from start prices (a warm start) begins: who keeps an object at them, and which prices stay.
 
 ghost use Rattle.std.specs.Prelude.{ℕ, ◌≡◌, ◌≢◌, ◌<◌, length, false, pos, IfOk, IfSome};
 ghost use Rattle.auc_letters.specs.Price.{IsEps};
@@ -16,11 +16,10 @@ use crate::scan::worth_of;
 use auc_rows::FlatRows;
 use std::alloc::{AllocError, Global};
 
-/// How often all persons are passed over before the start prices are given up.
+/// The number of passes over all persons before the start prices are given up.
 const PASSES: u32 = 8;
 
-/// The prices before anybody holds anything: those of the start where there are as many objects as persons, and else
-/// none.
+/// The prices before anybody holds anything: the start prices where there are as many objects as persons, else 0.
 fn prices_before(alloc: Global, rows: &FlatRows, start: &[i64]) -> Result<Vec<i64>, AllocError>
     requires start { ArePricesOf rows.now start.now }
     ensures start { IfOk result (λ v. IsStart rows.now (pos 1) v.items) }
@@ -36,8 +35,8 @@ fn prices_before(alloc: Global, rows: &FlatRows, start: &[i64]) -> Result<Vec<i6
 }
 
 impl Holdings {
-    /// At which place of a person's row the first arc stands that leads to an object that nobody holds, and is within
-    /// eps of his best at the start prices; past the row where there is none. Nothing is proved of it.
+    /// The place in a person's row of the first arc to an object that nobody holds and that is within eps of the best
+    /// at the start prices. Past the row where there is none. Nothing is proved of it.
     fn free_within(&self, rows: &FlatRows, eps: i64, start: &[i64], person: u32) -> u32
         requires { person < length rows.now.rows }
     {
@@ -57,8 +56,8 @@ impl Holdings {
         place
     }
 
-    /// A person takes the object of the arc that stands here in his row, which has its start price then. Not where
-    /// somebody holds it, nor past the row.
+    /// A person takes the object of the arc at this place of the row, which gets its start price then. Not where a
+    /// person holds it, nor past the row.
     fn seat(&mut self, rows: &FlatRows, start: &[i64], person: u32, place: u32)
         requires person { person < length rows.now.rows }
         requires start { ArePricesOf rows.now start.now }
@@ -80,8 +79,8 @@ impl Holdings {
         self.award(person, Bid { amount, arc });
     }
 
-    /// Each person in order whose object isn't within eps of his best leaves it, and it has no price then; gives
-    /// whether anybody has.
+    /// Each person in order whose object isn't within eps of the best leaves it, and its price is then 0. Returns
+    /// whether any has.
     fn release(&mut self, rows: &FlatRows, eps: i64) -> bool
         requires arcs { EachHasArc rows.now }
         requires eps { IsEps eps }
@@ -101,7 +100,7 @@ impl Holdings {
         released
     }
 
-    /// Persons leave objects until each who has one is within eps of his best. Nobody keeps anything where that takes
+    /// Persons leave objects until each who has one is within eps of the best. Nobody keeps anything where that takes
     /// too long.
     fn settle(&mut self, rows: &FlatRows, eps: i64)
         requires arcs { EachHasArc rows.now }
@@ -119,7 +118,7 @@ impl Holdings {
     }
 
     /// Opens a market in which nobody holds anything, at start prices: persons keep what is within eps of their best at
-    /// them. Where there are more objects than persons, nothing that nobody keeps has a price, so some of those who
+    /// them. Where there are more objects than persons, an object that nobody keeps has price 0. So some persons who
     /// keep one at the start prices may yet leave it.
     fn open_at(&mut self, rows: &FlatRows, eps: i64, start: &[i64])
         requires arcs { EachHasArc rows.now }
@@ -146,8 +145,8 @@ impl Holdings {
 }
 
 impl<'a> Market<'a> {
-    /// A market at start prices, at the last eps: with as many objects as persons, and else at no prices but those of
-    /// what persons keep of them. They hold what they keep.
+    /// A market at start prices, at the last eps. Where there are more objects than persons, only the objects that
+    /// persons keep have start prices. Persons hold what they keep.
     pub fn from_start(
         alloc: Global,
         rows: &'a FlatRows,
@@ -165,9 +164,9 @@ impl<'a> Market<'a> {
     }
 }
 
-/// What persons hold where each takes the object of the arc that is proposed for him, by its place in his row, at its
-/// proposed price. None where somebody has no object so, or isn't within the last eps of his best. What nobody takes
-/// has no price where there are more objects than persons.
+/// The holdings that a proposal gives: each person takes the object of the proposed arc, by its place in the person's
+/// row, at its proposed price. None where a person gets no object so, or isn't within the last eps of the best. An
+/// object that nobody takes has price 0 where there are more objects than persons.
 ///
 /// # Errors
 ///

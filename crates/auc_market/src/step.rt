@@ -1,4 +1,4 @@
-//! One step of the auction: a person bids by the candidates on his list, and the bid is an award.
+//! One step of the auction: a person bids by the candidate list, and the bid is an award.
 
 ghost use Rattle.std.specs.Prelude.{◌≡◌, ◌<◌, length, IfNone, IfSome};
 ghost use Rattle.auc_letters.specs.Price.{IsEps};
@@ -14,7 +14,8 @@ use crate::lists::Lists;
 use auc_rows::FlatRows;
 
 impl Holdings {
-    /// A person bids, and has the object; gives who has held it. None where the bid would be above the greatest price.
+    /// A person bids and gets the object; returns the holder before. None where the bid would be above the greatest
+    /// price.
     #[inline(always)]
     pub(crate) fn step(
         &mut self,

@@ -1,6 +1,6 @@
-//! Two chains of bids that take turns, and persons who begin as chains end. A bid waits for memory: for who holds the
-//! object, where his row begins, and the row. While the bid of one chain waits, the processor goes on with that of the
-//! other one, which needs nothing of it.
+//! Two chains of bids that take turns, and persons who begin as chains end. A bid waits for memory: for the holder of
+//! the object, for the start of the holder's row, and for the row. Meanwhile the processor goes on with the bid of the
+//! other chain, which needs nothing of it.
 
 ghost use Rattle.std.specs.Prelude.{◌≡◌, ◌≢◌, ◌+◌, ◌<◌, ◌≤◌, length, true, false, IfErr, IfOk, OnOk};
 ghost use Rattle.auc_market.specs.declared.holdings.TheConstants.{NOBODY};
@@ -14,8 +14,8 @@ use crate::holdings::NOBODY;
 use crate::market::Market;
 use crate::pace::Pace;
 
-/// Who takes a turn in place of one who has bid, and who begins next: whoever is free then, or, where nobody is, who
-/// would have begun next. LLVM makes selects of it: a branch would be guessed wrongly where a chain ends.
+/// The next bidder of this chain, and the next person to begin: the displaced person if there is one, else the next one
+/// to begin. LLVM compiles this to selects: a branch would be mispredicted where a chain ends.
 #[inline(always)]
 fn turn(freed: u32, fresh: u32) -> (u32, u32)
     requires few { fresh < NOBODY }
@@ -39,9 +39,9 @@ fn is_over(freed: u32, fresh: u32, until: u32) -> bool
 }
 
 impl<'a> Market<'a> {
-    /// The person who waits, and the next one who has no object, bid in turn, each time then whoever the bid has
-    /// displaced; where that is nobody, the next person begins. That ends where nobody begins any more of those from
-    /// `begun` up to `until`, and one of the two is free still: he waits then.
+    /// The person who waits and the next one who has no object bid in turn; each bid is followed by one of the person
+    /// whom it displaced. Where nobody was displaced, the next person begins. That ends where nobody of those from
+    /// `begun` up to `until` begins any more and one of the two is still free, who waits then.
     pub(crate) fn serve(
         &mut self,
         begun: u32,
@@ -86,7 +86,7 @@ impl<'a> Market<'a> {
         Ok(Chain::Bids)
     }
 
-    /// All who have no object bid, two in turn, until each has one.
+    /// All persons who have no object bid, two in turn, until each has one.
     pub(crate) fn sell(&mut self, left: &mut u64, pace: &mut Pace) -> Result<Chain, Halt>
         ensures spends { OnOk result (Spends left.old left.new self.old self.new) }
         ensures sold { IfOk result (λ c. AreSold left.new c self.new) }

@@ -2,14 +2,14 @@
 
 ghost use Rattle.std.specs.Prelude.{Bool, true, false, ◌≡◌};
 
-/// How far a run has come.
+/// The progress of a run.
 #[derive(Clone, Copy, Debug, PartialEq, Eq)]
 pub struct Progress {
     /// The eps of the phase, in scaled costs.
     pub eps: i64,
-    /// How many persons have an object.
+    /// The number of persons who have an object.
     pub held: u32,
-    /// How many bids the phase has made.
+    /// The number of bids that the phase has made.
     pub bids: u64,
 }
 
@@ -21,12 +21,12 @@ pub trait Watch {
     /// Whether it was asked.
     ghost was_asked: { Self → Bool };
 
-    /// Whether it has said no, for who is about to ask.
+    /// Whether it has said no, for a caller that is about to ask.
     fn has_said_no(&self) -> bool
         ensures said { result ≡ has_stopped self.now }
         ensures asked { result ≡ true → was_asked self.now ≡ true };
 
-    /// Whether the run goes on. Where it doesn't, it ends, and nothing is asked any more.
+    /// Whether the run goes on. Where it doesn't, it ends, and the watch isn't asked any more.
     fn goes_on(&mut self, progress: Progress) -> bool
         requires going { has_stopped self.old ≡ false }
         ensures yes { result ≡ true → has_stopped self.new ≡ false }
@@ -34,7 +34,7 @@ pub trait Watch {
         ensures asked { was_asked self.new ≡ true };
 }
 
-/// Asks whether a run goes on; who has said no isn't asked again.
+/// Asks whether a run goes on; a watch that has said no isn't asked again.
 pub(crate) fn may_go_on<W: Watch>(watch: &mut W, progress: Progress) -> bool
     ensures yes { result ≡ true → W.has_stopped watch.new ≡ W.has_stopped watch.old }
     ensures no { result ≡ false → W.has_stopped watch.new ≡ true }

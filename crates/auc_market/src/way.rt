@@ -1,4 +1,4 @@
-//! A person who has bid in a long chain looks for a path in place of one more bid.
+//! After many bids in a row, a free person searches for a path in place of one more bid.
 
 ghost use Rattle.std.specs.Prelude.{◌≡◌, ◌<◌, length, IfErr, IfOk, IfSome};
 ghost use Rattle.auc_letters.specs.Price.{IsEps};
@@ -15,7 +15,7 @@ use crate::search::Search;
 use auc_rows::FlatRows;
 use std::alloc::{AllocError, Global};
 
-/// Who is free after a search for a path, and how many arcs it has looked at.
+/// The free person after a search for a path, and the number of arcs scanned.
 #[derive(Clone, Copy)]
 pub(crate) struct Way {
     pub(crate) free: u32,
@@ -23,8 +23,8 @@ pub(crate) struct Way {
 }
 
 impl Holdings {
-    /// The Hall set that a search has reached which found no free object: the person from whom it began, and who hold
-    /// what it has settled. None where they know no fewer objects than they are.
+    /// The Hall violator of a search that found no free object: the person from whom it began, and the holders of the
+    /// settled objects. None where these persons don't have arcs to fewer objects than they number.
     fn reached(
         &self,
         alloc: Global,
@@ -46,11 +46,11 @@ impl Holdings {
         hall_set_of(alloc, rows, is_in.as_slice())
     }
 
-    /// A free person goes by a path where one is found; gives who is free then.
+    /// A free person takes a path where one is found; returns the free person afterwards.
     ///
     /// # Errors
     ///
-    /// Persons who together know too few objects, or memory was refused: nothing has changed then.
+    /// A Hall violator, or memory was refused: nothing has changed then.
     pub(crate) fn find_way(
         &mut self,
         alloc: Global,
@@ -70,7 +70,7 @@ impl Holdings {
             self.old.owns.items self.new.owns.items w.free) }
         ensures halt { IfErr result (IsHalt rows.now) }
     {
-        // Read here, so that the proof knows what all rows keep.
+        // Read here, so that the proof knows the invariant of the rows.
         let _ = rows.persons();
         let is_found = search.find(rows, self, person)?;
         let looked = search.looked;

@@ -1,5 +1,5 @@
-//! What holds over every schedule, from every world that a phase begins with. The functions do nothing: their contracts
-//! are theorems, and crates above cite them. One calls the law of the mails that it rests on.
+//! Laws over every schedule, from every world that a phase begins with. The functions do nothing: their contracts are
+//! theorems, and crates above cite them. One calls the law of the mails that it rests on.
 
 ghost use Rattle.std.specs.Prelude.{ℕ, ℤ, pos, ◌<◌, ◌≤◌, ◌≤ℤ◌, ◌≡◌, ◌≢◌, ◌⊎◌, true, List, [], ◌∷◌, ◌++◌, Some, None, Contains, All, length, map};
 ghost use Rattle.auc_graph.specs.declared.rows.RowArc.{RowArc};
@@ -40,14 +40,14 @@ ghost use Rattle.auc_model.specs.Work.{IsOfRound, work};
 use auc_letters::Letter;
 use auc_mail::only_the_sender_is_free;
 
-/// A turn that is answered by Nothing leaves the world as it was, and each turn is at most one step of one mail.
+/// A turn with the reply Nothing leaves the world as it was, and each turn is at most one step of one mail.
 pub fn turns_are_small()
     ensures nothing { (g : Phase) (w v : World) (t : Turn) → Turned g w t TurnReply.Nothing v → v ≡ w }
     ensures one_step { (g : Phase) (w v : World) (t : Turn) (r : TurnReply) → Turned g w t r v → (name : MailName) × StepsIn w v name }
 {}
 
-/// A turn leaves nothing open but the sender of a letter that it takes: two outcomes of one turn are the same, or else
-/// by each a letter was taken, of two senders.
+/// A turn leaves nothing open but the sender of a letter that it takes: two outcomes of one turn are the same, or each
+/// took a letter, of two senders.
 pub fn only_the_sender_is_free_in_turns()
     ensures { (g : Phase) (w u v : World) (t : Turn) (r s : TurnReply) → Turned g w t r u → Turned g w t s v
         → ((r ≡ s) × (u ≡ v)) ⊎ TakesOfTwoSenders w u v }
@@ -55,14 +55,14 @@ pub fn only_the_sender_is_free_in_turns()
     only_the_sender_is_free::<Letter>();
 }
 
-/// Schedules go on: one turn is a schedule, and one schedule after another is one.
+/// One turn is a schedule, and one schedule after another is one.
 pub fn schedules_go_on()
     ensures one { (g : Phase) (w v : World) (t : Turn) (r : TurnReply) → Turned g w t r v → Schedule g w (t ∷ []) v }
     ensures more { (g : Phase) (w u v : World) (ts us : List Turn) → Schedule g w ts u → Schedule g u us v → Schedule g w (ts ++ us) v }
 {}
 
-/// Worlds that are reached: what a phase begins with is one, and turns and schedules lead from one to another. A mail
-/// has its nodes for good.
+/// The reached worlds: the world that a phase begins with is one, and turns and schedules lead from one to another. The
+/// number of nodes of a mail never changes.
 pub fn reached_worlds()
     ensures begins { (g : Phase) (w : World) → Lawful g → Starts g w → Reached g w }
     ensures turn { (g : Phase) (w v : World) (t : Turn) (r : TurnReply) → Reached g w → Turned g w t r v → Reached g v }
@@ -76,16 +76,18 @@ pub fn copies_never_fall()
     ensures { (g : Phase) (w v : World) (ts : List Turn) → Schedule g w ts v → (s j : ℕ) → w.copy s j ≤ℤ v.copy s j }
 {}
 
-/// An object that nobody holds had no holder before either, and its price is as it was.
+/// An object that nobody holds had no holder before either, and its price is unchanged.
 pub fn unheld_prices_stay()
     ensures { (g : Phase) (w v : World) (ts : List Turn) → Schedule g w ts v → (j : ℕ) → v.holder j ≡ None
         → (w.holder j ≡ None) × (v.price j ≡ w.price j) }
 {}
 
-/// In no world that is reached a guard is hit: neither was one so far, nor is one by the letter that comes next,
-/// whichever that is. What a shard of the persons takes fits it, and tells no price below its copy; what a shard of the
-/// objects takes is a bid that fits it; the hub takes only First and Stop letters. Where the mails have the usual
-/// numbers of nodes, no letter but a Price is refused for want of room.
+/// In no reached world is a guard hit: neither was one so far, nor is one by the next letter, whichever that is.
+///
+/// - A letter that a shard of the persons takes fits it, and has no price below its copy.
+/// - A letter that a shard of the objects takes is a bid that fits it.
+/// - The hub takes only First and Stop letters.
+/// - Where the mails have the usual numbers of nodes, only a Price is refused for want of room.
 pub fn no_guard()
     ensures fell { (g : Phase) (v : World) → Reached g v → v.end ≢ Some (End.Stopped Why.Fell) }
     ensures stray { (g : Phase) (v : World) → Reached g v → v.end ≢ Some (End.Stopped Why.Stray) }
@@ -101,14 +103,15 @@ pub fn no_guard()
         → MayPost g v h o rest → Refuses g v h o PostRefused.Full → is_price o.letter ≡ true }
 {}
 
-/// A world that is reached has stopped for want of an arc only where a person has none.
+/// A reached world has stopped for want of an arc only where a person has none.
 pub fn stuck_has_its_cause()
     ensures { (g : Phase) (v : World) → Reached g v → v.end ≡ Some (End.Stopped Why.Stuck) → SomeoneStuck g }
 {}
 
-/// In every world that is reached: no copy is above the true price, no person holds two objects, and each holder's arc
-/// is one of his to that object, slack-right at eps at the true prices. The hub counts no more than there are persons,
-/// and no more objects are held; where it has counted as many, each person holds an object.
+/// In every reached world no copy is above the true price, and no person holds two objects. Each holder's arc is one of
+/// the holder's to that object, slack-right at eps at the true prices (epsilon-complementary slackness). The hub counts
+/// no more than there are persons, and no more objects are held. Where it has counted as many, each person holds an
+/// object.
 pub fn every_schedule()
     ensures copies_low { (g : Phase) (v : World) → Reached g v → (s j : ℕ) → v.copy s j ≤ℤ v.price j }
     ensures held_once { (g : Phase) (v : World) → Reached g v → (j k : ℕ) (a b : Held) → v.holder j ≡ Some a
@@ -121,10 +124,10 @@ pub fn every_schedule()
         × (h : Held) × (v.holder j ≡ Some h) × (h.person ≡ i) }
 {}
 
-/// In a phase of a problem, in every world that is reached: where the hub has counted as many as there are persons, the
-/// holders' arcs are an assignment of the problem. What an assignment by holders' arcs leaves is held by nobody. Each
-/// holder's arc is slack-right at eps at the true prices; so at eps 1 such an assignment costs least, if no object that
-/// it leaves has a price.
+/// In a phase of a problem, in every reached world: where the hub has counted as many as there are persons, the
+/// holders' arcs are an assignment of the problem. An object that such an assignment leaves is held by nobody. Each
+/// holder's arc is slack-right at eps at the true prices. So at eps 1 such an assignment has the least cost, if each
+/// object that it leaves has price 0.
 pub fn counted_holders_are_assigned()
     ensures assigned { (p : Problem) (t : Table) (shards : ℕ) (eps : ℤ) (v : World) → IsTableOf p t
         → Reached (phase_of t shards eps) v → v.count ≡ length t.rows → (choice : List Arc) × IsAssignment p choice
@@ -141,7 +144,7 @@ pub fn counted_holders_are_assigned()
         → IsNoPriceLeft prices choice → IsLeast p choice }
 {}
 
-/// What the laws of every schedule rest on: what a phase begins with is kept by each turn.
+/// The basis of the laws of every schedule: the invariants of the world that a phase begins with are kept by each turn.
 pub fn turns_keep_invariants()
     ensures begins { (g : Phase) (w : World) → Starts g w → Kept g w }
     ensures keeps { (g : Phase) (w v : World) (t : Turn) (r : TurnReply) → Lawful g → Kept g w → Turned g w t r v → Kept g v }
@@ -156,15 +159,15 @@ pub fn ends_stay()
     ensures all { (g : Phase) (v : World) → Reached g v → v.end ≡ Some End.All → v.count ≡ g.persons }
 {}
 
-/// Where nothing can move, the end is set: no world is reached in which all outboxes and mails are empty and nobody
-/// bids, and none in which no bid, post or take moves anything, before the end.
+/// Where nothing can move, the end is set. In no reached world before the end are all outboxes and mails empty while
+/// nobody bids. And in each reached world before the end some bid, post or take moves something.
 pub fn no_stall()
     ensures still { (g : Phase) (v : World) → 0 < g.persons → Reached g v → IsStill g v → v.end ≢ None }
     ensures rests { (g : Phase) (v : World) → 0 < g.persons → Reached g v → Rests g v → v.end ≢ None }
 {}
 
-/// The turns of a round use up work: none makes more of it, and one that moves leaves less, or the phase has ended
-/// after it. So rounds come to an end.
+/// The turns of a round use up work: none makes more of it, and a turn that moves leaves less, or the phase has ended
+/// after it. So the rounds end.
 pub fn rounds_use_up_work()
     ensures never_more { (g : Phase) (w v : World) (t : Turn) (r : TurnReply) → IsOfRound t → Turned g w t r v → work g v ≤ work g w }
     ensures less { (g : Phase) (w v : World) (t : Turn) → IsOfRound t → Turned g w t TurnReply.Moved v

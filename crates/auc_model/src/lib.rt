@@ -1,9 +1,11 @@
-//! The world of the auction as a plain machine, and what holds of it over every schedule of turns.
+//! The world of the auction as a plain machine, and laws over every schedule of turns.
 //!
 //! Shards of persons bid, shards of objects sell, a hub counts, and letters go between them through three mails
-//! (`specs/World.antt`). A turn is one step of one shard or of the hub, with at most one step of one mail; a schedule
-//! is any list of turns, in any order (`specs/Schedule.antt`). There is no code here but the types of the turns: the
-//! functions do nothing, and their contracts are theorems about all schedules.
+//! (`specs/World.antt`). A turn is one step of one shard or of the hub, with at most one step of one mail. A schedule
+//! is any list of turns, in any order (`specs/Schedule.antt`).
+//!
+//! There is no code here but the types of the turns: the functions do nothing, and their contracts are theorems about
+//! all schedules. Nothing is said of fairness: a schedule may leave out any turn.
 #![tactic(auto)]
 
 mod laws;

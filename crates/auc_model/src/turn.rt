@@ -1,4 +1,4 @@
-//! The turns of the world, and what comes of them.
+//! The turns of the world, and their replies.
 
 use auc_letters::Why;
 
@@ -16,7 +16,7 @@ pub enum MailName {
 /// One step of the world. Shards, objects and boxes are numbered from 0.
 #[derive(Clone, Copy, Debug, PartialEq, Eq)]
 pub enum Turn {
-    /// The shard of the persons puts its next bid, or why there is none, into its outbox, if that is empty.
+    /// The shard of the persons puts its next bid, or the reason why there is none, into its outbox, if that is empty.
     Bid { shard: u32 },
     /// The shard of the persons posts the first letter of its outbox.
     PersonPost { shard: u32 },
@@ -35,7 +35,7 @@ pub enum Turn {
     HubClose { mail: MailName, at: u32 },
 }
 
-/// What comes of a turn.
+/// The reply to a turn.
 #[derive(Clone, Copy, Debug, PartialEq, Eq)]
 pub enum TurnReply {
     /// The world may have changed.

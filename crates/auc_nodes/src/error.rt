@@ -2,7 +2,7 @@
 
 use thiserror::Error;
 
-/// Why a pool was not made. Where several causes hold, the first of them in this order is answered.
+/// Why a pool was not made. Where there are several causes, the first of them in this order is returned.
 #[derive(Clone, Copy, Debug, PartialEq, Eq, Error)]
 pub enum PoolError {
     /// More lists than `MOST_LISTS`.

@@ -1,8 +1,8 @@
-//! Lists that share one vector of nodes: each node has an item and the number of the next node. The nodes that were
-//! used and are free are one more list; those that never were are only counted.
+//! Linked lists that share one vector of nodes: each node has an item and the number of the next node. Nodes that were
+//! used and are free are one more list; those that never were used are only counted.
 //!
-//! Contracts see a pool as a list of lists (`specs/Lists.antt`); each call is the plain list operation, and the other
-//! lists stay.
+//! Each call but `make` takes O(1) time. Proved: contracts see a pool as a list of lists (`specs/Lists.antt`); each
+//! call is the plain list operation, and the other lists don't change.
 #![tactic(auto)]
 
 mod error;

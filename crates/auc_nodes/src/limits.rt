@@ -1,7 +1,7 @@
-//! How large a pool may be.
+//! The limits of a pool.
 
-/// The most lists of a pool.
+/// The greatest number of lists of a pool.
 pub const MOST_LISTS: u32 = 1048576;
 
-/// The most nodes of a pool.
+/// The greatest number of nodes of a pool.
 pub const MOST_NODES: u32 = 16777216;

@@ -1,4 +1,4 @@
-//! Lists of nodes: where a list begins and ends, and how two are joined.
+//! Lists of nodes: the ends of a list, and how two are joined.
 
 ghost use Rattle.std.specs.Prelude.{◌≡◌, ◌+◌, ◌<◌, ◌++◌, ◌^◌, length, slice_set, vec_len, vec_capacity};
 ghost use Rattle.auc_nodes.specs.Links.{CanJoin, EndsWith, IsJoined, behind, end_of, grown, links_of, items_of, nodes_from, single};
@@ -10,7 +10,7 @@ pub struct Node<T> {
     pub next: u32,
 }
 
-// Where a list of nodes begins and ends, and how many it has. With none the first two mean nothing.
+// The first and the last node of a list, and the number of its nodes. With none the first two mean nothing.
 #[derive(Clone, Copy)]
 pub struct Ends {
     pub first: u32,
@@ -18,7 +18,7 @@ pub struct Ends {
     pub len: u32,
 }
 
-// Joins the second list of nodes after the first, and answers the ends of both together. Writes one link at most.
+// Joins the second list of nodes after the first, and returns the ends of both together. Writes one link at most.
 #[inline]
 pub(crate) fn join<T: Copy>(nodes: &mut Vec<Node<T>>, front: Ends, back: Ends) -> Ends
     requires { CanJoin (links_of nodes.old.items) front back }
@@ -43,8 +43,7 @@ pub(crate) fn join<T: Copy>(nodes: &mut Vec<Node<T>>, front: Ends, back: Ends) -
     }
 }
 
-// Links a node after a list. Writes one link at most, and the fields that change alone: this is what most calls come
-// to.
+// Links a node after a list. Writes one link at most, and only the fields that change: most calls need no more.
 #[inline(always)]
 pub(crate) fn link_behind<T: Copy>(
     nodes: &mut Vec<Node<T>>,
@@ -74,8 +73,8 @@ pub(crate) fn link_behind<T: Copy>(
     list.len += 1;
 }
 
-// Links a node that was never used after a list, with this item. It stands apart, so that the push of a used node,
-// which nearly all are, keeps its values in registers.
+// Links a node that was never used after a list, with this item. Not inlined, so that the push of a used node, which
+// nearly all are, keeps its values in registers.
 #[cold]
 #[inline(never)]
 pub(crate) fn link_fresh<T: Copy>(
@@ -106,7 +105,7 @@ pub(crate) fn link_fresh<T: Copy>(
     link_behind(nodes, ends, list, node);
 }
 
-// Lets a list begin with another node, and have so many. Its last one stays.
+// Lets a list begin with another node, and have this many. Its last one stays.
 #[inline]
 pub(crate) fn set_front(ends: &mut Vec<Ends>, list: usize, first: u32, len: u32)
     requires { list < length ends.old.items }

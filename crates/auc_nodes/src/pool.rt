@@ -1,4 +1,4 @@
-//! The pool itself: what each call makes of it.
+//! The pool itself, and its calls.
 
 ghost use Rattle.std.specs.Prelude.{[], ◌∷◌, ◌++◌, ◌≡◌, ◌≢◌, ◌+◌, ◌-◌, ◌<◌, ◌≤◌, List, length, slice_get, slice_set, replicate, IfOk, IfErr, OnOk, MatchResult, MatchOption};
 ghost use Rattle.auc_nodes.specs.Limits.{ListsFit, NodesFit, IsRefusedFor};
@@ -21,7 +21,7 @@ pub struct NodePool<T: Copy> {
     // The nodes that were used. They are linked at their first use, so that `make` touches no memory of them.
     nodes: Vec<Node<T>>,
 
-    // How many more there are, for which memory is reserved.
+    // The number of nodes that were never used, for which memory is reserved.
     fresh: u32,
 
     // The ends of each list.
@@ -63,8 +63,8 @@ fn new_ends(alloc: Global, lists: u32) -> Result<Vec<Ends>, AllocError>
 impl<T: Copy> NodePool<T> {
     /// A pool whose lists are all empty.
     ///
-    /// There are `lists` lists, and `nodes` items may stand in them at a time. `blank` is any item, which is
-    /// never handed out.
+    /// There are `lists` lists, and `nodes` items may be in them at a time. `blank` is any item, which is never handed
+    /// out.
     ///
     /// Errors, in this order: `TooManyLists` above `MOST_LISTS`; `TooManyNodes` above `MOST_NODES`; `NoMemory` where
     /// memory was refused.
@@ -96,7 +96,7 @@ impl<T: Copy> NodePool<T> {
         })
     }
 
-    /// How many items the list has. Takes O(1) time.
+    /// The number of items of the list. Takes O(1) time.
     #[inline]
     pub fn len(&self, list: u32) -> u32
         requires { HasList self.now list }
@@ -105,7 +105,7 @@ impl<T: Copy> NodePool<T> {
         self.ends[list as usize].len
     }
 
-    /// How many nodes are free. Takes O(1) time.
+    /// The number of free nodes. Takes O(1) time.
     #[inline]
     pub fn free(&self) -> u32
         ensures free { result ≡ free_of self.now }
@@ -128,7 +128,7 @@ impl<T: Copy> NodePool<T> {
         }
     }
 
-    /// Puts the item after the list, or gives it back where no node is free. Takes O(1) time.
+    /// Appends the item to the list, or returns it where no node is free. Takes O(1) time.
     #[inline(always)]
     pub fn push_back(&mut self, list: u32, item: T) -> Result<(), T>
         requires { HasList self.old list }
@@ -173,7 +173,7 @@ impl<T: Copy> NodePool<T> {
         Some(item)
     }
 
-    /// Puts all items of one list after another, and leaves the first empty. Takes O(1) time.
+    /// Appends all items of one list to another, and leaves the first empty. Takes O(1) time.
     #[inline]
     pub fn append(&mut self, from: u32, to: u32)
         requires from { HasList self.old from }
@@ -200,7 +200,7 @@ impl<T: Copy> NodePool<T> {
         self.free = joined;
     }
 
-    /// What every pool keeps. This is a law, and does nothing: proofs above cite it.
+    /// The invariant of every pool. This is a law, and does nothing: proofs above cite it.
     pub fn every_pool_is_sound(&self)
         ensures { IsSound self.now }
     {

@@ -6,14 +6,14 @@ ghost use Rattle.auc_objects.specs.Answers.{letters_of};
 use arrayvec::ArrayVec;
 use auc_letters::Out;
 
-/// The letters that answer a bid, by what became of it: one or two, so that no list of them need be made.
+/// The letters that answer a bid, by its outcome: one or two, so that no list of them need be made.
 #[derive(Clone, Copy, Debug, PartialEq, Eq)]
 pub enum Answers {
-    /// The bid is too low: the bidder is told the price.
+    /// The bid is too low: the bidder gets the price.
     Refused { refused: Out },
-    /// The object had no holder: the bidder has it, and the hub counts it.
+    /// The object had no holder: the bidder gets it, and the hub counts it.
     First { award: Out, first: Out },
-    /// Somebody held the object: he is told first, and then the bidder that he has it.
+    /// The object had a holder: the first letter is to that holder, the second gives the object to the bidder.
     Outbid { outbid: Out, award: Out },
 }
 

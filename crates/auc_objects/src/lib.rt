@@ -1,7 +1,9 @@
-//! The object shards: prices and holders, and what they answer to bids. Each bid is dealt with by the award rule.
+//! The shards of the objects in the distributed auction: prices, holders, and the answers to bids.
 //!
-//! A shard sells its objects one bid at a time: pure code, with no mail, no lock and no thread. The rule and its
-//! letters are defined in `auc_letters` (`specs/Award.antt`).
+//! A shard sells its objects one bid at a time, by the award rule. It is pure code, with no mail, no lock and no
+//! thread. A bid takes O(1). The rule and its letters are defined in `auc_letters` (`specs/Award.antt`).
+//!
+//! Proved: a bid leaves exactly the state and the letters of the award.
 #![tactic(auto)]
 
 mod answers;

@@ -1,5 +1,4 @@
-//! An object as its shard keeps it: its price and its holder in 16 bytes, so that a bid finds both at one place of
-//! memory.
+//! The price and the holder of an object in 16 bytes, so that a bid reads both at one place of memory.
 
 ghost use Rattle.std.specs.Prelude.{◌≡◌, None, Some};
 ghost use Rattle.auc_graph.specs.Price.{IsPrice};
@@ -10,14 +9,14 @@ use auc_letters::Held;
 /// The price and the holder of an object.
 #[derive(Clone, Copy, Debug, PartialEq, Eq)]
 pub(crate) struct PackedSale {
-    // The price where somebody has the object, and -1 less the price where nobody has it: prices aren't below 0.
+    // The price where the object has a holder, and -1 less the price where it has none: prices aren't below 0.
     coded: i64,
     person: u32,
     arc: u32,
 }
 
 impl PackedSale {
-    /// An object that nobody has.
+    /// An object with no holder.
     #[inline]
     pub(crate) fn unsold(price: i64) -> PackedSale
         requires { IsPrice price }
@@ -31,7 +30,7 @@ impl PackedSale {
         }
     }
 
-    /// An object that somebody has.
+    /// An object with a holder.
     #[inline]
     pub(crate) fn sold(price: i64, held: Held) -> PackedSale
         requires { IsPrice price }

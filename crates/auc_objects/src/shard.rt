@@ -17,9 +17,9 @@ use auc_letters::{Bid, Held, Letter, Out, To, shard_of};
 use std::alloc::{AllocError, Global};
 use std::marker::Model;
 
-/// One shard of the objects: the price and the holder of each object that is its own.
+/// One shard of the objects: the price and the holder of each of its objects.
 ///
-/// Objects belong to the shards by the remainder of their number. The tables have a place for every object, so that an
+/// Objects belong to shards by the remainder of their number. The tables have a place for every object, so that an
 /// object is found by its number; the places of other shards' objects are never changed.
 #[derive(Debug, Drop)]
 pub struct ObjectShard {
@@ -42,7 +42,7 @@ impl Model for ObjectShard {
     ghost invariant = { λ s. AreObjects (record { shard = s.shard; of = s.of; person_shards = s.person_shards; persons = s.persons; prices = map price_in s.sales.items; holders = map holder_in s.sales.items }) };
 }
 
-/// Objects at these prices, which nobody has.
+/// Objects at these prices, with no holders.
 fn unsold_at(alloc: Global, prices: &[i64]) -> Result<Vec<PackedSale>, AllocError>
     requires { All IsPrice prices.now }
     ensures prices { IfOk result (λ l. map price_in l.items ≡ prices.now) }
@@ -135,15 +135,15 @@ impl ObjectShard {
         }
     }
 
-    /// The bid that a letter is, if it is one that fits the shard: its object is there and is the shard's, and its
-    /// amount is from 0 to the greatest price. O(1).
+    /// The bid in a letter, if it is one that fits the shard: its object exists and is the shard's, and its amount is
+    /// from 0 to the greatest price. O(1).
     #[inline]
     pub fn bid_in(&self, letter: Letter) -> Option<Bid>
         ensures some { IfSome result (IsBidIn self.now letter) }
         ensures none { IfNone result ((bid : Bid) → IsBidIn self.now letter bid → ⊥) }
         ensures sound { AreObjects self.now }
     {
-        // Read here, so that the proof knows what every shard keeps.
+        // Read here, so that the proof knows the invariant of the shard.
         let _ = &self.sales;
         let Letter::Bid {
             person,
@@ -165,10 +165,11 @@ impl ObjectShard {
         })
     }
 
-    /// Deals with one bid on an object of the shard, and gives the letters that answer it. O(1).
+    /// Answers one bid on an object of the shard; returns the letters of the answer. O(1).
     ///
-    /// The bid is accepted exactly where its amount is at least the price and `eps` more. Then the amount is the price,
-    /// and the person holds the object by his arc. A bid that is refused changes nothing. `eps` is in scaled costs.
+    /// The bid is accepted exactly where its amount is at least the price plus `eps`. Then the amount is the price, and
+    /// the person holds the object by the arc of the bid. A bid that is refused changes nothing. `eps` is in scaled
+    /// costs.
     #[inline]
     pub fn answer(&mut self, bid: Bid, eps: i64) -> Answers
         requires object { Owns self.old bid.object }
@@ -222,7 +223,7 @@ impl ObjectShard {
         }
     }
 
-    /// The same as [`ObjectShard::answer`], of the bid of `person` by the arc at place `arc` for `object`, with the
+    /// The same as [`ObjectShard::answer`], for the bid of `person` by the arc at place `arc` for `object`, with the
     /// letters in a list, in order. O(1).
     #[inline]
     pub fn on_bid(

@@ -1,4 +1,4 @@
-//! What a shard's bids are found by: the way for each row, lists of candidates and blocks.
+//! Finds the bids of a shard's persons: a method for each row, candidate lists and blocks.
 
 ghost use Rattle.std.specs.Prelude.{◌≡◌, ◌<◌, List, ℤ, [], length, All, IfOk, IfSome, IfNone};
 ghost use Rattle.auc_graph.specs.Price.{IsPrice};
@@ -42,11 +42,14 @@ use auc_letters::Bid;
 use std::alloc::{AllocError, Global};
 use std::marker::Model;
 
-/// What the bids of a shard's persons are found by ([`Bidder::bid`], [`crate::PersonShard::next_bid_by`]): the way for
-/// each row, which is told by that row alone. For rows of more than 64 arcs there are lists of candidates, by which
-/// most bids look at a few arcs alone, and for those of more than 256 bounds of blocks; for shorter ones that don't
-/// rise, copies that do. All are of the rows that they were made for, and stay right as long as no copy of a price
-/// falls.
+/// Finds the bids of a shard's persons ([`Bidder::bid`], [`crate::PersonShard::next_bid_by`]). The method for a row
+/// depends on that row alone.
+///
+/// - Rows of more than 64 arcs have candidate lists, by which most bids scan a few arcs only.
+/// - Rows of more than 256 arcs also have bounds of blocks.
+/// - Shorter rows that aren't in rising order of objects have copies that are.
+///
+/// All are of the rows that they were made for, and stay right as long as no copy of a price falls.
 #[derive(Drop)]
 pub struct Bidder {
     ways: Ways,
@@ -64,12 +67,12 @@ impl Model for Bidder {
 }
 
 impl Bidder {
-    /// The ways for the persons of shard number `shard` of `of`, and empty lists for those with more than 64 arcs.
+    /// The methods for the persons of shard number `shard` of `of`, and empty lists for those with more than 64 arcs.
     ///
     /// Takes O(persons + arcs) time, and 8 bytes of memory for each person of all. For each of the shard's with more
     /// than 64 arcs it takes 328 bytes, and with more than 256 arcs 8 to 16 more for each 16 arcs. For each of the
-    /// shard's with at most 64 arcs that don't rise it takes 12 to 24 bytes for each arc and the time to sort them,
-    /// or O(arcs^2) where some lead to one object.
+    /// shard's with at most 64 arcs that aren't in rising order it takes 12 to 24 bytes for each arc. To sort them
+    /// takes time too, O(arcs^2) where some lead to one object.
     ///
     /// # Errors
     ///
@@ -88,7 +91,7 @@ impl Bidder {
         })
     }
 
-    /// The best arc of a person with a long row, where his list, which has this number, or his blocks tell it.
+    /// The best arc of a person with a long row, where the list at this place or the blocks decide it.
     #[inline]
     fn best_long(&mut self, own: PersonRow, place: u32) -> Option<Scan>
         requires kept { KeptAt own self.old }
@@ -103,9 +106,9 @@ impl Bidder {
         self.blocks.scan(own, place, lists)
     }
 
-    /// The best arc of a person: by his list or his blocks where these tell it, and else by a pass over his row;
-    /// nothing where he has none.
-    // Apart: docs/CODEGEN.md, "A search in line".
+    /// The best arc of a person: by the list or the blocks where these decide it, and else by a pass over the row. None
+    /// where the person has no arc.
+    // Not inlined: docs/CODEGEN.md, "A search in line".
     #[inline(never)]
     fn best_apart(&mut self, own: PersonRow) -> Option<Scan>
         requires kept { KeptAt own self.old }
@@ -122,7 +125,7 @@ impl Bidder {
         scan_from(PricedRow::of(own))
     }
 
-    /// The same, for a search that is made in line.
+    /// The same, for an inlined search.
     // A function by itself: docs/CODEGEN.md, "The memory of a seldom answer".
     #[inline(always)]
     fn best_seldom(&mut self, own: PersonRow) -> Option<Scan>
@@ -134,7 +137,7 @@ impl Bidder {
         self.best_apart(own)
     }
 
-    /// The best arc of a person, by the way for his row; nothing where he has none.
+    /// The best arc of a person, by the method for the row; none where the person has no arc.
     #[inline(always)]
     fn best(&mut self, own: PersonRow) -> Option<Scan>
         requires kept { KeptAt own self.old }
@@ -149,7 +152,7 @@ impl Bidder {
         self.best_seldom(own)
     }
 
-    /// What a person bids at these copies of the prices; None where he has no arc.
+    /// The bid of a person at these copies of the prices; None where the person has no arc.
     #[inline(always)]
     pub(crate) fn bid_by(&mut self, own: PersonRow, eps: i64) -> Option<Bid>
         requires eps { IsEps eps }
@@ -162,15 +165,15 @@ impl Bidder {
         Some(bid_on(own, eps, found))
     }
 
-    /// What a person bids at these copies of the prices; None where he has no arc. The amount may be above the greatest
-    /// price.
+    /// The bid of a person at these copies of the prices; None where the person has no arc. The amount may be above the
+    /// greatest price.
     ///
     /// `copies` are indexed by object, and no copy has fallen since this was made; `eps` is in scaled costs, as the
-    /// copies are. A person of another shard than this was made for bids the same, found more slowly.
+    /// copies are. For a person of another shard than this was made for the bid is the same, but found more slowly.
     ///
-    /// Takes a pass over a short row, or for most bids of a longer one over a short list, and else a pass over the row,
-    /// of which one of more than 256 arcs is looked at in part; no memory.
-    // In line, so that what is found stays in registers.
+    /// Takes a pass over a short row. For a longer row most bids take a pass over a short list, and the others a pass
+    /// over the row. Of a row of more than 256 arcs that pass scans a part. No memory.
+    // Inlined, so that the result stays in registers.
     #[inline(always)]
     pub fn bid(&mut self, rows: &Rows, eps: i64, person: u32, copies: &[i64]) -> Option<Bid>
         requires person { person < length rows.now.rows }
@@ -191,8 +194,9 @@ impl Bidder {
     }
 }
 
-/// Lists of candidates stay right while no copy falls: those of a shard through each of its calls, and from the copies
-/// of one phase to the prices that it leaves, with which the next one begins. Does nothing: its contract is the law.
+/// Candidate lists stay right while no copy falls. So those of a shard do through each of its calls, and those of one
+/// phase do for the next one, which begins with the prices that the phase leaves. Does nothing: its contract is the
+/// law.
 pub fn lists_stay_right()
     ensures { (t : Table) (copies later : List ℤ) (lists : List Listed) → NeverFall copies later → Kept t copies lists
         → Kept t later lists }

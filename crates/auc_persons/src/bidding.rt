@@ -1,19 +1,19 @@
-//! What comes of a question for a bid, and of a letter.
+//! The result of a question for a bid, and of a letter.
 
 use auc_letters::{Out, Why};
 
-/// What comes of a question for the next bid.
+/// The result of a question for the next bid.
 #[derive(Clone, Copy, Debug, PartialEq, Eq)]
 pub enum Bidding {
     /// Nobody is free.
     Idle,
     /// The person who has been free longest can't bid, for this reason: Bids, Stuck or Ceiling.
     Stop { why: Why },
-    /// His bid, to be posted; he waits for its answer.
+    /// The person's bid, to be posted; the person waits for its answer.
     Out { out: Out },
 }
 
-/// Why a letter is refused.
+/// The reason why a letter is refused.
 #[derive(Clone, Copy, Debug, PartialEq, Eq)]
 pub enum PersonFault {
     /// The letter doesn't fit.

@@ -1,15 +1,16 @@
-//! The person shards: what each person bids, and what he hears. Copies of prices never fall.
+//! The shards of the persons in the distributed auction: bids of persons, and the letters that answer them. Copies of
+//! prices never fall.
 //!
-//! A shard bids for its persons one at a time, each on his best arc at the shard's copies of the prices, and takes the
-//! answers: pure code, with no mail, no lock and no thread. The bid is that of `auc_graph` (`specs/Bid.antt`); what
-//! each call leaves of the shard is defined in `specs/Persons.antt`.
+//! The method is the auction algorithm (Bertsekas, 1979). A shard bids for its persons one at a time, each on the best
+//! arc at the shard's copies of the prices, and takes the answers. It is pure code, with no mail, no lock and no
+//! thread. A bid takes O(arcs of the person), a letter O(1).
 //!
-//! Beside a shard, or beside prices of his own, a caller may keep a [`Bidder`], by which the bids are the same and
-//! found sooner ([`Bidder::bid`], [`PersonShard::next_bid_by`]). How a row is looked over is told once, by its own
-//! length and order (`bidder/way.rt`): a short one as it stands where its objects rise, or as a copy that rises
-//! (`specs/Sorted.antt`); a longer one by a list of a few arcs (`specs/Candidates.antt`). Where the list doesn't tell
-//! the bid of a row of more than 256 arcs, the row is looked at by blocks, each with a bound (`specs/Blocks.antt`), and
-//! above 640 arcs the list is made anew by them.
+//! Proved: the bid is exactly that of `auc_graph` (`specs/Bid.antt`), and each call leaves exactly the state defined in
+//! `specs/Persons.antt`. With a [`Bidder`] beside the shard, or beside a caller's own prices, the bids are the same and
+//! found sooner ([`Bidder::bid`], [`PersonShard::next_bid_by`]).
+//!
+//! A short row is scanned as it is or as a sorted copy (`specs/Sorted.antt`). A longer one has a candidate list
+//! (`specs/Candidates.antt`), above 256 arcs also blocks with bounds (`specs/Blocks.antt`). See `bidder/way.rt`.
 #![tactic(auto)]
 
 mod bidder;

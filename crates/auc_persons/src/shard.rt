@@ -1,6 +1,6 @@
 //! One shard of the persons: its parts, and the steps that change them.
 //!
-//! What it bids stands in `shard/next_bid.rt`, and what it hears in `shard/hearing.rt`.
+//! Its bids are in `shard/next_bid.rt`, its letters in `shard/hearing.rt`.
 
 ghost use Rattle.std.specs.Prelude.{◌≡◌, ◌≢◌, ◌<◌, ◌≤◌, ◌-◌, drop, [], ◌∷◌, ◌++◌, length, replicate, slice_set, All, IfOk};
 ghost use Rattle.std.specs.VecDeque.{deque_capacity};
@@ -17,7 +17,7 @@ use std::alloc::{AllocError, Global};
 use std::collections::VecDeque;
 use std::marker::Model;
 
-/// The persons of a shard, with room for all.
+/// The persons of a shard, in a list with room for all.
 fn idle_of(alloc: Global, shard: u32, of: u32, persons: u32) -> Result<VecDeque<u32>, AllocError>
     requires { shard < of }
     ensures items { IfOk result (λ q. q.items ≡ persons_of shard of persons) }
@@ -34,9 +34,9 @@ fn idle_of(alloc: Global, shard: u32, of: u32, persons: u32) -> Result<VecDeque<
     Ok(idle)
 }
 
-/// One shard of the persons: its copies of the prices, how each of its persons stands, and who of them is free.
+/// One shard of the persons: its copies of the prices, the state of each of its persons, and the free persons.
 ///
-/// Persons belong to the shards by the remainder of their number. The tables have a place for every person and every
+/// Persons belong to shards by the remainder of their number. The tables have a place for every person and every
 /// object, so that each is found by its number; the places of other shards' persons are never changed.
 #[derive(Drop)]
 pub struct PersonShard {
@@ -122,7 +122,7 @@ impl PersonShard {
         self.copies[object as usize]
     }
 
-    /// How a person of the shard stands. O(1).
+    /// The state of a person of the shard. O(1).
     pub fn state(&self, person: u32) -> PersonState
         requires { Owns self.now person }
         ensures { result ≡ state_of self.now person }
@@ -140,7 +140,7 @@ impl PersonShard {
         self.copies[object as usize] = price;
     }
 
-    /// The next person bids, and waits from now on.
+    /// The next person bids, and waits afterwards.
     #[inline]
     fn wait_for(&mut self, object: u32)
         requires some { 0 < length self.old.idle }
@@ -158,7 +158,7 @@ impl PersonShard {
         }
     }
 
-    /// A person holds his object.
+    /// A person now holds the object.
     #[inline]
     fn hold(&mut self, person: u32, object: u32)
         requires person { person < length self.old.states }
@@ -168,7 +168,7 @@ impl PersonShard {
         self.states[person as usize] = PersonState::Holds { object };
     }
 
-    /// A person is free, and the last of those who are.
+    /// A person is now free, as the last of the free ones.
     #[inline]
     fn free(&mut self, person: u32)
         requires person { person < length self.old.states }

@@ -1,4 +1,5 @@
-//! Eps by phases: an eighth of the scaled spread of all costs at first, then a fifth of the last, down to 1.
+//! Eps by phases (epsilon scaling): first an eighth of the scaled spread of all costs, then a fifth of the last eps,
+//! down to 1.
 
 ghost use Rattle.std.specs.Prelude.{◌≡◌, pos, ◌*◌, ◌^◌, ◌≤ℤ◌, ◌<ℤ◌, IfSome};
 ghost use Rattle.auc_letters.specs.Price.{IsEps};
@@ -6,13 +7,13 @@ ghost use Rattle.auc_phases.specs.Eps.{first_eps, next_eps, scaled_spread};
 
 use auc_graph::Rows;
 
-/// What part of the scaled spread of all costs the first phase's eps is.
+/// The first eps is the scaled spread of all costs divided by this.
 pub const FIRST_PART: i64 = 8;
 
-/// What part of the last phase's eps the next phase's is.
+/// The next eps is the last one divided by this.
 pub const NEXT_PART: i64 = 5;
 
-/// The last phase's eps.
+/// The eps of the last phase.
 pub const LAST_EPS: i64 = 1;
 
 /// The spread of all costs, in scaled costs.
@@ -25,9 +26,9 @@ fn scaled_spread(rows: &Rows) -> i64
     scale * rows.cost_spread()
 }
 
-/// The eps of the first phase, in scaled costs: an eighth of the scaled spread of all costs, rounded down, and at least
-/// 1. Where there are more objects than persons it is 1, so that the first phase is the only one: a later one would
-/// begin with prices of objects that nobody holds, and leave some of them unsold. O(1).
+/// The eps of the first phase, in scaled costs: an eighth of the scaled spread of all costs, rounded down, but not
+/// below 1. Where there are more objects than persons it is 1, so that the first phase is the only one. A later phase
+/// would begin with prices of objects that nobody holds, and leave some of them unsold. O(1).
 pub fn first_eps(rows: &Rows) -> i64
     ensures is { result ≡ first_eps rows.now }
     ensures range { IsEps result }

@@ -1,4 +1,4 @@
-//! The hub: it counts the First letters, and ends the phase.
+//! The hub counts the First letters, and ends the phase.
 
 ghost use Rattle.std.specs.Prelude.{◌≡◌, None};
 ghost use Rattle.auc_phases.specs.Hub.{counting, ending, hearing};
@@ -7,7 +7,8 @@ use auc_letters::{Letter, Why};
 use auc_model::End;
 use std::marker::Model;
 
-/// How many objects have got their first holder in the phase, as far as the hub has heard, and how the phase has ended.
+/// The number of objects that have got their first holder in the phase, by the letters that the hub has taken, and how
+/// the phase has ended.
 #[derive(Clone, Copy, Debug, PartialEq, Eq)]
 pub struct Hub {
     count: u32,
@@ -35,7 +36,7 @@ impl Hub {
         }
     }
 
-    /// How many First letters were counted.
+    /// The number of First letters counted.
     pub fn count(&self) -> u32
         ensures { result ≡ self.now.count }
     {
@@ -50,8 +51,8 @@ impl Hub {
         self.end
     }
 
-    /// Hears a letter, where there are so many persons: a First is counted, and the last of them ends the phase; a Stop
-    /// ends it with its reason, and any other letter as stray. The first end stays.
+    /// Takes a letter, where there are `persons` persons. A First is counted, and the last of them ends the phase; a
+    /// Stop ends it with its reason, and any other letter as stray. The first end stays.
     #[inline]
     pub fn hear(&mut self, letter: Letter, persons: u32)
         ensures { self.new ≡ hearing persons letter self.old }
@@ -80,7 +81,7 @@ impl Hub {
         }
     }
 
-    /// The phase ends so, unless it has ended before.
+    /// Ends the phase so, unless it has ended before.
     #[inline]
     pub fn end_with(&mut self, end: End)
         ensures { self.new ≡ ending self.old end }

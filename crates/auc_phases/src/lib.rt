@@ -1,8 +1,8 @@
-//! What the drivers by messages share, whatever plays their phases: limits, eps by phases, why a shard stops, and the
-//! hub's count.
+//! What all drivers by messages share, whatever plays their phases: limits, eps by phases (epsilon scaling), reasons to
+//! stop, and the hub.
 //!
-//! [`first_eps`] and [`next_eps`] say which phases there are. What comes before the first one, and how a run ends, is
-//! for `auc_answers`.
+//! [`first_eps`] and [`next_eps`] say which phases there are. What comes before the first phase, and how a run ends, is
+//! in `auc_answers`.
 #![tactic(auto)]
 
 mod eps;

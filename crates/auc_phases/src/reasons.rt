@@ -1,4 +1,4 @@
-//! For which reason a phase ends: a letter with a fault, or one that was refused.
+//! The reason why a phase ends: a letter with a fault, or one that was refused.
 
 ghost use Rattle.std.specs.Prelude.{◌≡◌, ◌≢◌, ◌⊎◌, true, false, IfSome, IfNone};
 ghost use Rattle.auc_mail.specs.declared.call.PostRefused.{PostRefused};
@@ -9,7 +9,7 @@ use auc_letters::{Letter, Why};
 use auc_mail::PostRefused;
 use auc_persons::PersonFault;
 
-/// Why a phase ends where a shard of the persons finds a fault in a letter.
+/// The reason why a phase ends where a shard of the persons finds a fault in a letter.
 #[inline]
 pub fn reason_for(fault: PersonFault) -> Why
     ensures { result ≡ reason_for fault }
@@ -20,8 +20,9 @@ pub fn reason_for(fault: PersonFault) -> Why
     }
 }
 
-/// Why a shard stops where its letter was refused: `Posts` where the lane has had all its posts, `Mail` where the mail
-/// is full. It doesn't stop where the box is closed, or where the letter is a price, which may be dropped.
+/// The reason why a shard stops where its letter was refused: `Posts` where the lane has had all its posts, `Mail`
+/// where the mail is full. It doesn't stop where the box is closed, or where the letter is a price, which may be
+/// dropped.
 #[inline]
 pub fn reason_to_stop(refused: PostRefused, letter: Letter) -> Option<Why>
     ensures some { IfSome result (λ y. (refused ≢ PostRefused.Closed) × (is_price letter ≡ false) × (y ≡ reason refused)) }

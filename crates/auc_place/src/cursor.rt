@@ -1,14 +1,14 @@
-//! How far a text has been looked through.
+//! The position in a text up to which it has been read.
 
 ghost use Rattle.std.specs.Prelude.{◌≡◌, ◌<◌, ◌+◌, ◌^◌, false, ◌++◌, ◌∷◌, [], List, ℕ, length};
 ghost use Rattle.auc_graph.specs.Tokens.{is_separator};
 ghost use Rattle.auc_place.specs.Places.{line_behind, column_behind};
 ghost use Rattle.auc_place.specs.Search.{HasTokens, IsCursor};
 
-/// What is known after a beginning of a text.
+/// The state after a beginning of a text.
 #[derive(Clone, Copy, Debug)]
 pub struct Cursor {
-    /// How many tokens begin there.
+    /// The number of tokens that begin there.
     pub tokens: u64,
     /// Whether it ends inside one.
     pub inside: bool,
@@ -18,7 +18,7 @@ pub struct Cursor {
     pub column: u64,
 }
 
-/// Whether this byte parts tokens.
+/// Whether this byte separates tokens.
 #[inline(always)]
 #[tactic(auto, unfolding(auc_graph::specs::Tokens::is_separator))]
 pub(crate) fn is_separator_byte(byte: u8) -> bool
@@ -40,7 +40,7 @@ fn place_behind(line: u64, column: u64, byte: u8) -> (u64, u64)
     }
 }
 
-/// How many tokens begin after one more byte, and whether the text ends inside one there.
+/// The number of tokens that begin after one more byte, and whether the text ends inside one there.
 #[inline(always)]
 fn tokens_behind(tokens: u64, inside: bool, byte: u8) -> (u64, bool)
     ensures has { (seen : List ℕ) → length seen < 2 ^ 63 → HasTokens seen tokens inside → HasTokens (seen ++ byte ∷ []) result.0 result.1 }
@@ -72,7 +72,7 @@ impl Cursor {
     #[inline(always)]
     pub(crate) fn behind(self, byte: u8) -> Cursor
         ensures is { (seen : List ℕ) → length seen < 2 ^ 63 → IsCursor seen self → IsCursor (seen ++ byte ∷ []) result }
-        // A token more begins there only with a byte of its own, after a separator or at the front.
+        // One more token begins there only with a byte of its own, after a separator or at the front.
         ensures begins { self.tokens < result.tokens → (self.inside ≡ false) × (is_separator byte ≡ false)
             × (result.tokens ≡ self.tokens + 1) }
     {

@@ -1,4 +1,4 @@
-//! What a search has found so far.
+//! The state of a search for a token.
 
 ghost use Rattle.std.specs.Prelude.{◌≡◌, ◌<◌, ◌+◌, ◌^◌, ◌++◌, ◌∷◌, [], List, ℕ, length};
 ghost use Rattle.auc_place.specs.Places.{IsFound};
@@ -7,18 +7,18 @@ ghost use Rattle.auc_place.specs.Search.{IsCursor, IsFinding, IsOpen};
 use crate::cursor::{Cursor, is_separator_byte};
 use crate::place::Place;
 
-/// What a search for a token has found in the beginning of a text.
+/// The result of a search for a token in the beginning of a text.
 #[derive(Debug, Drop)]
 pub enum Finding {
     /// The token doesn't begin there.
     Before(Cursor),
-    /// The token begins there, has shown all its bytes so far, and perhaps goes on.
+    /// The token begins there, all its bytes so far are kept, and it may go on.
     Within(Place),
-    /// The token has ended, or is longer than what is shown of it: its place stays.
+    /// The token has ended, or is longer than what is kept of it: its place stays.
     Behind(Place),
 }
 
-/// What is found after one more byte, where the token has not begun before it.
+/// The state after one more byte, where the token has not begun before it.
 #[inline(always)]
 fn begun(cursor: Cursor, number: u64, byte: u8) -> Finding
     ensures { (seen : List ℕ) → length seen < 2 ^ 63 → IsFinding number seen (Finding.Before cursor)
@@ -32,7 +32,7 @@ fn begun(cursor: Cursor, number: u64, byte: u8) -> Finding
     }
 }
 
-/// What is found after one more byte, where the token has begun before it.
+/// The state after one more byte, where the token has begun before it.
 #[inline(always)]
 fn gone_on(place: Place, byte: u8) -> Finding
     ensures { (number : ℕ) (seen : List ℕ) → IsFinding number seen (Finding.Within place) → IsFinding number (seen ++ byte ∷ []) result }
@@ -48,7 +48,7 @@ fn gone_on(place: Place, byte: u8) -> Finding
     }
 }
 
-/// What is found after one more byte.
+/// The state after one more byte.
 #[inline(always)]
 fn next(finding: Finding, number: u64, byte: u8) -> Finding
     ensures { (seen : List ℕ) → length seen < 2 ^ 63 → IsFinding number seen finding → IsFinding number (seen ++ byte ∷ []) result }
@@ -81,7 +81,7 @@ impl Finding {
         finding
     }
 
-    /// What is found where the text ends.
+    /// The place where the text ends.
     pub(crate) fn at_end(self) -> Option<Place>
         ensures { (number : ℕ) (seen : List ℕ) → IsFinding number seen self → IsFound seen number result }
     {

@@ -5,15 +5,15 @@ ghost use Rattle.auc_place.specs.Places.{shows};
 
 use arrayvec::ArrayVec;
 
-/// The most bytes of a token that its place shows.
+/// The greatest number of bytes of a token that its place keeps.
 pub const MOST_SHOWN: usize = 24;
 
-/// Where a token stands, and what it looks like.
+/// The place of a token, and its first bytes.
 #[derive(Debug, Drop)]
 pub struct Place {
     /// Its line, from 1 on: a line feed ends one.
     pub line: u64,
-    /// Its column, from 1 on: how many bytes of its line stand before it, and one.
+    /// Its column, from 1 on: the number of bytes of its line before it, plus one.
     pub column: u64,
     /// Its first bytes, up to [`MOST_SHOWN`].
     pub front: ArrayVec<u8, 24>,

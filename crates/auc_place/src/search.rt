@@ -1,4 +1,4 @@
-//! The search for a token in what a reader has.
+//! The search for a token in the text of a reader.
 
 ghost use Rattle.std.specs.Prelude.{◌≡◌, ◌≤◌, ◌-◌, Err, IfOk, IfSome, length};
 ghost use Rattle.auc_place.specs.declared.place.TheConstants.{MOST_SHOWN};
@@ -9,8 +9,8 @@ use crate::place::Place;
 use std::io::Read;
 use thiserror::Error;
 
-/// The most bytes that are taken of a reader at a time. They lie on the stack, since a search takes no memory, so they
-/// are few.
+/// The greatest number of bytes that are taken of a reader at a time. They are on the stack, since a search takes no
+/// memory, so they are few.
 const PIECE: usize = 4_096;
 
 /// Why a search was given up.
@@ -19,14 +19,14 @@ pub enum SearchFault {
     /// A read failed, or was interrupted.
     #[error("a read failed")]
     Failed,
-    /// As many reads as are allowed reached neither the token nor the text's end.
+    /// As many reads as are allowed reached neither the token nor the end of the text.
     #[error("too many reads")]
     TooManyReads,
 }
 
-/// The place of the token of this number, from 0 on, in the text that a reader has, or none where the text has no such
-/// token. `limit` is the most calls of `read`. The reader is read up to the piece in which the token ends, or is known
-/// to be longer than what is shown of it.
+/// The place of the token of this number, from 0 on, in the text of a reader, or none where the text has no such token.
+/// `limit` is the greatest number of calls of `read`. The reader is read up to the piece in which the token ends, or is
+/// known to be longer than what is kept of it.
 ///
 /// # Errors
 ///
@@ -44,7 +44,7 @@ pub fn find_token<R: Read>(
     ensures found { IfOk result (λ place. IfSome (R.remaining reader.old) (λ text. IsFound text number place)) }
     // Each read gave at least one byte.
     ensures many { result ≡ Err SearchFault.TooManyReads → IfSome (R.remaining reader.old) (λ text. limit ≤ length text) }
-    // The token didn't begin among these bytes, but perhaps among the last of them, as many as a place shows.
+    // The token didn't begin among these bytes, but perhaps among the last `MOST_SHOWN` of them.
     ensures far { result ≡ Err SearchFault.TooManyReads
         → IfSome (R.remaining reader.old) (λ text. BeginsBehind text number (limit - MOST_SHOWN)) }
 {

@@ -1,9 +1,9 @@
-//! The least cost of each column. No clause needs it: whoever begins with prices by it may begin with any.
+//! The least cost of each column. No clause depends on it: a caller that takes start prices from it may start from any.
 
 use crate::arc::ShortArc;
 use std::alloc::{AllocError, Global};
 
-/// Of an object that nobody knows: above all costs.
+/// Of an object with no arc: above all costs.
 pub(crate) const UNKNOWN: i32 = 2_147_483_647;
 
 /// For each object the least cost of the arcs that lead to it.
@@ -19,7 +19,7 @@ impl Columns {
         Ok(Columns { least })
     }
 
-    /// Of these arcs.
+    /// The least costs of these arcs.
     pub fn of(alloc: Global, objects: u32, arcs: &[ShortArc]) -> Result<Columns, AllocError> {
         let mut columns = Columns::new(alloc, objects)?;
         for arc in arcs {
@@ -28,7 +28,7 @@ impl Columns {
         Ok(columns)
     }
 
-    /// Takes one more arc in.
+    /// Takes in one more arc.
     #[inline(always)]
     pub fn note(&mut self, arc: ShortArc) {
         let object = arc.object as usize;

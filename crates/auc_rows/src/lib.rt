@@ -1,8 +1,10 @@
-//! The rows of a problem with nothing in them that a bid doesn't need: eight bytes an arc, one row after another in one
-//! vector.
+//! The rows of a problem, with only what a bid needs: eight bytes an arc, one row after another in one vector.
 //!
-//! [`FlatRows::build`] lays them out, in one pass where the arcs stand in the order of their persons. Whoever needs the
-//! place of an arc in the problem's list looks for it there.
+//! [`FlatRows::build`] makes them in O(arcs + persons), in one pass where the arcs are in the order of their persons. A
+//! caller that needs the place of an arc in the problem's list looks for it there.
+//!
+//! Proved: a row has the person's arcs in the order of the list, and no others. Nothing is proved of the least costs,
+//! nor of whether the rows are a full table.
 #![tactic(auto)]
 
 mod arc;

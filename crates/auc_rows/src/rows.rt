@@ -13,8 +13,8 @@ use std::marker::Model;
 
 /// The arcs of each person, in the order of the problem's list, with no place in it; and the spread of all costs.
 ///
-/// All rows lie one after another in one vector. Whether they are a full table is found once, when they are laid out:
-/// no clause needs it, and a solver may go another way there.
+/// All rows lie one after another in one vector. Whether they are a full table is found once, when they are built. No
+/// clause depends on it; a solver may choose another method there.
 #[derive(Drop)]
 pub struct FlatRows {
     spread: i64,
@@ -37,8 +37,7 @@ impl Model for FlatRows {
     ghost invariant = { λ r. IsLaidOut r.starts.items r.arcs.items r.persons × IsFlatTable (record { objects = r.objects; spread = r.spread; rows = parts r.starts.items r.arcs.items r.persons }) };
 }
 
-/// Whether the arcs of row after row lead to all of so many objects in order, over and over, and there are just so many
-/// rows of them.
+/// Whether there are `persons` rows, and the arcs of each lead to all `objects` objects in order.
 fn are_full(arcs: &[ShortArc], persons: u32, objects: u32) -> bool {
     if arcs.len() as u64 != u64::from(persons) * u64::from(objects) {
         return false;
@@ -70,8 +69,8 @@ impl FlatRows {
     ghost use Rattle.auc_rows.specs.Rows.{EachHasArc, IsFlatTable, scale_in};
 
     /// The rows of a problem. Takes O(arcs + persons) time, and 8 bytes of memory an arc and 8 a person. Where the arcs
-    /// don't stand in the order of their persons, [`auc_graph::Rows`] are made first, for where each row begins: 12
-    /// bytes an arc, which are given back before the others are taken.
+    /// aren't in the order of their persons, [`auc_graph::Rows`] are made first, for where each row begins. They take
+    /// 12 bytes an arc, which are freed before the others are taken.
     ///
     /// # Errors
     ///
@@ -117,7 +116,7 @@ impl FlatRows {
         self.objects
     }
 
-    /// One more than the persons, by which costs are scaled.
+    /// The number of persons plus one, by which costs are scaled.
     #[inline]
     pub fn scale(&self) -> i64
         ensures is { result ≡ scale_in self.now }
@@ -138,8 +137,8 @@ impl FlatRows {
         self.spread
     }
 
-    /// The least cost of the arcs that lead to an object, in costs of the file, and none where there are none. No
-    /// clause says which it is: prices of any kind serve to begin with. O(1).
+    /// The least cost of the arcs that lead to an object, in costs of the file; none where there are none. No clause
+    /// says which it is: prices of any kind serve to begin with. O(1).
     #[inline]
     pub fn least_cost(&self, object: u32) -> Option<i32> {
         let least = *self.columns.least.get(object as usize)?;
@@ -170,8 +169,8 @@ impl FlatRows {
         true
     }
 
-    /// Where a person's arcs begin among those of all rows, and so in the problem's list, where that has the order of
-    /// the persons. No clause says so: who goes by it looks. O(1).
+    /// The place of a person's first arc among those of all rows. It is also the place in the problem's list, where
+    /// that has the order of the persons. No clause says so: the caller checks. O(1).
     #[inline]
     pub fn start(&self, person: u32) -> usize
         requires { person < length self.now.rows }

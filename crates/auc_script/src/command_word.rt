@@ -3,7 +3,7 @@
 /// A word that begins a command.
 #[derive(Clone, Copy, Debug, PartialEq, Eq)]
 pub enum CommandWord {
-    /// It opens the script, and stands nowhere else.
+    /// It opens the script, and comes nowhere else.
     MailWord,
     PostWord,
     TakeWord,

@@ -1,7 +1,8 @@
-//! Scripts of a mail: their text is read, their calls are made on a new mail, and the replies are written.
+//! Scripts of a mail: their text is read, their calls are made on a new mail, and the replies are written. Reading
+//! takes O(length) time.
 //!
-//! By [`replies_to`] each box hands out of a sender's items a prefix of what that sender posted, and accepts nothing
-//! after a close.
+//! Proved: by [`replies_to`] each box returns, of a sender's items, a prefix of what that sender posted, and accepts
+//! nothing after a close.
 #![tactic(auto)]
 
 mod command_word;

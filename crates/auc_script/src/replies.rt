@@ -1,4 +1,4 @@
-//! The replies of a mail, and the lines that tell them.
+//! The replies of a mail, and the lines that report them.
 
 ghost use Rattle.std.specs.Prelude.{◌≡◌, All, MatchResult};
 ghost use Rattle.auc_mail.specs.Step.{FitsIn};

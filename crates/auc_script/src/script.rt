@@ -5,19 +5,19 @@ ghost use Rattle.std.specs.Prelude.{◌≡◌};
 use auc_mail::Call;
 use std::marker::Model;
 
-/// The most boxes of a script's mail, and the most senders.
+/// The greatest number of boxes of a script's mail, and of senders.
 pub const MOST_SCRIPT_BOXES: u32 = 1_000;
 
-/// The most letters that may wait in a script's mail, and the highest reserve of a post.
+/// The greatest number of letters that may wait in a script's mail, and the greatest reserve of a post.
 pub const MOST_SCRIPT_NODES: u32 = 1_000_000;
 
-/// The most posts that a lane of a script's mail may have.
+/// The greatest number of posts of a lane of a script's mail.
 pub const MOST_SCRIPT_POSTS: i64 = 1_000_000_000_000;
 
 /// The greatest magnitude of an item.
 pub const MOST_ITEM: i64 = 1_000_000_000_000_000_000;
 
-/// The most calls of a script.
+/// The greatest number of calls of a script.
 pub const MOST_CALLS: u32 = 1_000_000;
 
 /// The calls of a script, in order. Contracts see them as a list.
@@ -51,8 +51,8 @@ impl Calls {
     }
 }
 
-/// A mail of so many boxes and senders, with room for so many waiting letters and so many posts for each lane, and the
-/// calls that are made on it. Boxes and senders of the calls are numbered from 0.
+/// A mail with these numbers of boxes, senders, waiting letters and posts for each lane, and the calls that are made on
+/// it. Boxes and senders of the calls are numbered from 0.
 #[derive(Debug, Drop)]
 pub struct Script {
     pub boxes: u32,

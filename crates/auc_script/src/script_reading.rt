@@ -118,7 +118,7 @@ fn post_of(
     Ok((post, place + 5, rest))
 }
 
-/// The call whose command stands at token `place`, the number of the token after it, and the text after it.
+/// The call whose command is at token `place`, the number of the token after it, and the text after it.
 fn call_of(
     boxes: u32,
     senders: u32,
@@ -188,15 +188,15 @@ fn open_script(command: Option<CommandWord>) -> Result<u32, ScriptError>
 
 /// The script that a text reads as, or the first fault in the order of the text.
 ///
-/// The text is parted into tokens, and its numbers are spelled, as those of a problem are. It begins with `mail BOXES
+/// The text is split into tokens, and its numbers are spelled, as those of a problem are. It begins with `mail BOXES
 /// SENDERS NODES MOST`: 1 to 1,000 boxes and senders, up to 1,000,000 waiting letters, up to 10^12 posts for each lane.
-/// After that stand the calls, each one of `post SENDER BOX ITEM RESERVE`, `take BOX` and `close BOX`.
+/// The calls follow, each one of `post SENDER BOX ITEM RESERVE`, `take BOX` and `close BOX`.
 ///
 /// # Errors
 ///
 /// At a token [`ScriptError::TooManyCalls`] comes first, then [`ScriptError::Word`], then [`ScriptError::Range`];
-/// [`ScriptError::Cut`] stands at the end of the text. [`ScriptError::NoMemory`] may stand in place of any other
-/// answer, where memory was refused.
+/// [`ScriptError::Cut`] comes at the end of the text. [`ScriptError::NoMemory`] may come in place of any other answer,
+/// where memory was refused.
 ///
 /// Takes O(length) time, and 32 bytes of memory a call.
 #[tactic(auto, unfolding(crate::specs::Script::script_of))]

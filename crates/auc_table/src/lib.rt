@@ -1,9 +1,12 @@
-//! A search for a least assignment of a table of costs, over the table as it lies in memory.
+//! Proposes a least assignment of a dense table of costs, read as it lies in memory.
 //!
-//! [`propose`] gives each person an object, no object twice, and each object a price at which nobody's object should be
-//! worse for him than another one. **Nothing is proved of what it finds**, but that the search ends and looks at
-//! nothing outside of the table: whoever takes a proposal tries it first, which takes one pass over the table. So the
-//! search may count by sums that wrap, with no thought of numbers that are too great for it.
+//! The method is row reduction and shortest augmenting paths (Jonker and Volgenant, 1987), in O(persons^2 * objects)
+//! time at most.
+//!
+//! [`propose`] gives each person an object, no object twice, and each object a price at which no person should prefer
+//! another object. **Nothing is proved of the proposal**, but that the search ends and reads nothing outside of the
+//! table. The caller tries a proposal first, which takes one pass over the table. So the search may use sums that wrap,
+//! and needs no care for overflow.
 #![tactic(auto)]
 
 mod gaps;

@@ -1,24 +1,24 @@
-//! Keys, holders and what each person has, and bids by which persons take objects from one another.
+//! Keys of the objects, holders, the object of each person, and bids by which persons take objects from one another.
 
 use crate::passes::{least_worth, object_of_worth};
 use crate::table::{Table, row_of};
 use std::alloc::{AllocError, Global};
 
-/// Stands for the holder of an object that nobody holds, and for the object of a person who has none.
+/// Marks an object that nobody holds, in place of its holder; and a person who has none, in place of the object.
 pub(crate) const NOBODY: u32 = 4_294_967_295;
 
-/// How many bids a chain of displaced persons makes; who is displaced by the last one goes by a path.
+/// The number of bids of a chain of displaced persons. The person displaced by the last one takes a path.
 const CHAIN: u32 = 4;
 
-/// The object that is best for a person, and how much dearer it may be till another one is as good; nothing where there
-/// is no other one.
+/// The best object of a person, and how much its price may rise until another one is as good; 0 where there is no other
+/// one.
 #[derive(Clone, Copy)]
 struct Best {
     object: usize,
     rise: i64,
 }
 
-/// What is best of a row; none of an empty one.
+/// The best entry of a row; none of an empty one.
 fn best_of(row: &[i64], keys: &[i64]) -> Option<Best> {
     let worth = least_worth(row, keys);
     let object = object_of_worth(row, keys, worth)?;
@@ -33,8 +33,8 @@ fn best_of(row: &[i64], keys: &[i64]) -> Option<Best> {
     Some(Best { object, rise })
 }
 
-/// The keys and the holders of the objects, and the object of each person. `looked` counts the entries that were looked
-/// at.
+/// The keys and the holders of the objects, and the object of each person. `looked` counts the entries that were
+/// scanned.
 #[derive(Drop)]
 pub(crate) struct Market {
     pub(crate) keys: Vec<i64>,
@@ -44,7 +44,7 @@ pub(crate) struct Market {
 }
 
 impl Market {
-    /// Nobody has anything, and no object has a price.
+    /// Nobody holds anything, and all prices are 0.
     pub(crate) fn new(alloc: Global, persons: u32, objects: u32) -> Result<Market, AllocError> {
         Ok(Market {
             keys: vec![in alloc; 0; objects as usize]?,
@@ -54,7 +54,7 @@ impl Market {
         })
     }
 
-    /// Who holds an object.
+    /// The holder of an object.
     pub(crate) fn holder_of(&self, object: usize) -> Option<u32> {
         if object >= self.holders.len() || self.holders[object] == NOBODY {
             return None;
@@ -62,7 +62,7 @@ impl Market {
         Some(self.holders[object])
     }
 
-    /// A person takes an object; gives who has held it.
+    /// A person takes an object; returns the holder before.
     pub(crate) fn hand_over(&mut self, person: u32, object: usize) -> u32 {
         if object >= self.holders.len() || person as usize >= self.owns.len() {
             return NOBODY;
@@ -73,8 +73,8 @@ impl Market {
         earlier
     }
 
-    /// A person takes what is best for him, and pays for it as much as it is better than the next best; gives whom he
-    /// displaces. Where another one is as good as an object that somebody holds, he takes nothing.
+    /// A person takes the best object, and raises its price by the margin to the second best; returns the displaced
+    /// person. Where another object is as good as the best one and the best one has a holder, the person takes nothing.
     fn bid(&mut self, table: &Table, person: u32) -> Option<u32> {
         let row = row_of(table, person);
         self.looked = self.looked.saturating_add(row.len() as u64);
@@ -95,7 +95,7 @@ impl Market {
         Some(earlier)
     }
 
-    /// A person bids, then whom he displaces, and so on.
+    /// A person bids, then the displaced person, and so on.
     pub(crate) fn bid_in_chain(&mut self, table: &Table, first: u32) {
         let mut person = first;
         for _ in 0..CHAIN {

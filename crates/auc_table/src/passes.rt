@@ -1,20 +1,20 @@
-//! Passes over a row, and over what is kept of each object. None has a branch that hangs on a cost, nor ends before the
-//! row does, so that the compiler takes several entries at a time; so each of them does one thing.
+//! Passes over a row and over arrays indexed by object. None has a branch that depends on a cost, nor ends before the
+//! row does, so that the compiler vectorizes it. So each pass does one thing.
 //!
-//! The **key** of an object is twice its price, and one more where somebody holds it. By twice a cost and the key, of
-//! two objects that are as good the free one comes first.
+//! The **key** of an object is twice its price, and one more where it has a holder. Where two objects are as good, the
+//! free one comes first by twice the cost plus the key.
 ghost use Rattle.std.specs.Prelude.{◌<◌, length, IfSome};
 
-/// How far an object is that nobody has come to.
+/// The distance of an object that isn't reached.
 pub(crate) const FAR: i64 = 1_152_921_504_606_846_976;
 
-/// The worth of an entry to the person of its row.
+/// Twice the value of an entry to the person of its row, plus one where its object has a holder: `worth` in names here.
 #[inline(always)]
 fn worth_of(cost: i64, key: i64) -> i64 {
     cost.wrapping_mul(2).wrapping_add(key)
 }
 
-/// The least worth of a row's entries.
+/// The least value of a row's entries.
 #[inline(never)]
 pub(crate) fn least_worth(row: &[i64], keys: &[i64]) -> i64 {
     let many = row.len().min(keys.len());
@@ -26,7 +26,7 @@ pub(crate) fn least_worth(row: &[i64], keys: &[i64]) -> i64 {
     least
 }
 
-/// The first object of this worth.
+/// The first object whose entry is worth this.
 pub(crate) fn object_of_worth(row: &[i64], keys: &[i64], worth: i64) -> Option<usize>
     ensures row { IfSome result (λ object. object < length row.now) }
     ensures keys { IfSome result (λ object. object < length keys.now) }
@@ -40,9 +40,9 @@ pub(crate) fn object_of_worth(row: &[i64], keys: &[i64], worth: i64) -> Option<u
     None
 }
 
-/// Takes in the objects that come nearer by this person's row, where `more` added to an entry's worth says how far its
-/// object is by him; gives how far the nearest of all is that isn't settled. A settled one has a key by which nobody
-/// comes nearer to it.
+/// Relaxes every object through this person: `more` added to an entry's value is the distance of its object through the
+/// person. Returns the least distance of an object that isn't settled. The key of a settled object is so high that its
+/// distance can't be improved.
 #[inline(never)]
 pub(crate) fn come_nearer(
     row: &[i64],
@@ -71,7 +71,7 @@ pub(crate) fn come_nearer(
     nearest
 }
 
-/// The first object that is so far.
+/// The first object at this distance.
 pub(crate) fn object_as_far(fars: &[i64], far: i64) -> Option<usize>
     ensures { IfSome result (λ object. object < length fars.now) }
 {

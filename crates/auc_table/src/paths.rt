@@ -1,32 +1,34 @@
 //! Shortest augmenting paths: a person who has nothing takes an object, its holder another one, and so on to a free
-//! object, so that together it costs least.
+//! object, at the least total cost.
 //!
-//! This is the search of Dijkstra over reduced costs, with no heap, since each row that is looked at comes to every
-//! object anyway.
+//! This is Dijkstra's search over reduced costs. It has no heap, since each row that is scanned reaches every object
+//! anyway.
 
 use crate::market::{Market, NOBODY};
 use crate::passes::{FAR, come_nearer, object_as_far};
 use crate::table::{Table, row_of};
 use std::alloc::{AllocError, Global};
 
-/// By how much a settled object is made dearer, so that nobody comes nearer to it.
+/// Added to the key of a settled object, so that its distance can't be improved.
 const DEAR: i64 = 2_305_843_009_213_693_952;
 
-/// An object, and how far it is.
+/// An object and its distance.
 #[derive(Clone, Copy)]
 struct Settled {
     object: usize,
     far: i64,
 }
 
-/// Whose row is looked at, and what is added to an entry's worth, so that it says how far the object is by him.
+/// The person whose row is relaxed, and what is added to an entry's value to give the distance of its object through
+/// the person.
 #[derive(Clone, Copy)]
 struct Reacher {
     person: u32,
     more: i64,
 }
 
-/// What a search keeps: how far each object is, and who comes to it; and the settled objects in order.
+/// The state of a search: the distance of each object, and the person through whom it was reached; and the settled
+/// objects in order.
 #[derive(Drop)]
 pub(crate) struct Search {
     fars: Vec<i64>,
@@ -35,7 +37,7 @@ pub(crate) struct Search {
 }
 
 impl Search {
-    /// Nothing is reached.
+    /// No object is reached.
     pub(crate) fn new(alloc: Global, objects: u32) -> Result<Search, AllocError> {
         Ok(Search {
             fars: vec![in alloc; FAR; objects as usize]?,
@@ -44,7 +46,7 @@ impl Search {
         })
     }
 
-    /// Looks at a row; gives the nearest object that isn't settled.
+    /// Relaxes a row; returns the closest object that isn't settled.
     fn look(&mut self, table: &Table, market: &mut Market, by: Reacher) -> Option<Settled> {
         let row = row_of(table, by.person);
         market.looked = market.looked.saturating_add(row.len() as u64);
@@ -63,7 +65,7 @@ impl Search {
         Some(Settled { object, far })
     }
 
-    /// Settles an object that this person holds; gives whose row is next: his.
+    /// Settles an object that this person holds; the person's row is the next one to relax.
     fn settle(
         &mut self,
         table: &Table,
@@ -88,7 +90,8 @@ impl Search {
         })
     }
 
-    /// Looks at one row after another, till a free object is the nearest one; gives it. None where no object is left.
+    /// Relaxes one row after another, until a free object is the closest one, and returns it. None where no object is
+    /// left.
     fn find(
         &mut self,
         table: &Table,
@@ -111,8 +114,8 @@ impl Search {
         Ok(None)
     }
 
-    /// Takes back what has made the settled objects dearer, and raises their prices by how much nearer they are than
-    /// this.
+    /// Takes the settled objects' keys back to what they were, and raises their prices by as much as they are closer
+    /// than this.
     fn raise(&mut self, market: &mut Market, end: i64) {
         for settled in &self.line {
             if settled.object < market.keys.len() {
@@ -123,7 +126,7 @@ impl Search {
         }
     }
 
-    /// From the free object back, each takes the object that he came to.
+    /// From the free object back, each person takes the object that was reached through the person.
     fn hand_over(&self, market: &mut Market, start: u32, end: usize) {
         let mut object = end;
         for _ in 0..=self.line.len() {
@@ -143,7 +146,7 @@ impl Search {
         }
     }
 
-    /// A person who has nothing goes by a shortest path; gives whether there is one.
+    /// A person who has nothing takes a shortest path; returns whether there is one.
     pub(crate) fn go(
         &mut self,
         table: &Table,

@@ -1,4 +1,4 @@
-//! What the search proposes.
+//! The proposal of the search.
 
 use crate::gaps::fill_gaps;
 use crate::market::{Market, NOBODY};
@@ -6,7 +6,7 @@ use crate::paths::Search;
 use crate::table::Table;
 use std::alloc::{AllocError, Global};
 
-/// The highest price of a proposal that is taken, in costs of the table: scaled by persons + 1 it is below 2^61. Those
+/// The greatest price of a proposal that is taken, in costs of the table: scaled by persons + 1 it is below 2^61. Those
 /// of a least assignment need not be above 10,000 times the spread of the costs.
 pub const HIGHEST_TAKEN: i64 = 200_000_000_000_000;
 
@@ -15,14 +15,15 @@ pub const HIGHEST_TAKEN: i64 = 200_000_000_000_000;
 pub struct Proposal {
     /// The object of each person.
     pub objects: Vec<u32>,
-    /// The person who has it, for each object; some greater number where nobody does.
+    /// For each object the person who has it; a number above all persons where nobody does.
     pub holders: Vec<u32>,
     /// The price of each object, in costs of the table.
     pub prices: Vec<i64>,
 }
 
-/// Everybody bids once in order, and whom that displaces, a few times; who has nothing then goes by a path. Gives
-/// whether everybody has an object: not where there are too few, or where more entries were looked at than are to be.
+/// Each person bids once in order, and the persons displaced bid a few times. A person who then has nothing takes a
+/// path. Returns whether each person has an object: not where there are too few objects, or where the limit on scanned
+/// entries is reached.
 fn assign_all(
     table: &Table,
     market: &mut Market,
@@ -74,17 +75,19 @@ fn propose_full(alloc: Global, table: &Table, looks: u64) -> Result<Option<Propo
     }))
 }
 
-/// Searches a least assignment of a table, where an entry that equals `gap` is none. It looks at some more than so many
-/// entries at most; where that doesn't suffice, or there are fewer objects than persons, it gives None.
+/// Searches for a least assignment of a table, where an entry that equals `gap` is a gap. It scans some more than
+/// `looks` entries at most. Where that doesn't suffice, or there are fewer objects than persons, it returns None.
 ///
-/// **The caller tries what it gives**, as nothing is proved of it. Where there is an assignment and costs are from
-/// -10^9 to 10^9, it should be a least one without gaps, with prices from 0 up, in costs of the table, at which no
-/// object is better for a person than his own, and where what nobody has is free.
+/// **The caller tries the proposal**, as nothing is proved of it. Where there is an assignment and costs are from -10^9
+/// to 10^9, it should be a least one without gaps. Its prices should be from 0 up, in costs of the table. At them no
+/// object should be better for a person than the person's own, and an object that nobody has should have price 0.
 ///
 /// The method is a row reduction, which is an auction at eps 0 that gives up early, from prices 0, and then shortest
-/// augmenting paths (Jonker and Volgenant, "A shortest augmenting path algorithm for dense and sparse linear assignment
-/// problems", Computing 38, 1987). Takes O(persons^2 * objects) time at most, and at most 44 bytes of memory an object
-/// and 4 a person, beside a copy of the table, 8 bytes an entry, where `gap` is given.
+/// augmenting paths. Source: Jonker and Volgenant, "A shortest augmenting path algorithm for dense and sparse linear
+/// assignment problems", Computing 38, 1987.
+///
+/// Takes O(persons^2 * objects) time at most. Takes at most 44 bytes of memory an object and 4 a person, and where
+/// `gap` is given a copy of the table, 8 bytes an entry.
 ///
 /// # Errors
 ///

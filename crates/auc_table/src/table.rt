@@ -1,20 +1,19 @@
 //! A table of costs, as it lies in memory.
 
-/// A row for each person, and in it an entry for each object, whose cost stands `stride` places after that of the row
-/// before.
+/// A row for each person, with an entry for each object. A row begins `stride` places after the row before.
 #[derive(Clone, Copy)]
 pub struct Table<'a> {
-    /// How many rows there are.
+    /// The number of rows.
     pub persons: u32,
-    /// How many entries a row has.
+    /// The number of entries of a row.
     pub objects: u32,
-    /// How many places a row begins after the one before it.
+    /// The number of places from the start of a row to that of the next one.
     pub stride: usize,
     /// All costs.
     pub costs: &'a [i64],
 }
 
-/// The row of a person; an empty one where it doesn't lie within the costs.
+/// The row of a person; an empty one where it isn't within the costs.
 pub(crate) fn row_of<'a>(table: &Table<'a>, person: u32) -> &'a [i64] {
     let Some(start) = table.stride.checked_mul(person as usize) else {
         return &[];

@@ -1,4 +1,4 @@
-//! What a worker of the persons bids.
+//! The bids of a worker of the persons.
 
 ghost use Rattle.std.specs.Prelude.{◌≡◌, ◌≢◌, ◌<◌, All};
 ghost use Rattle.auc_letters.specs.declared.letter.Why.{Why};
@@ -16,7 +16,7 @@ use arrayvec::ArrayVec;
 use auc_letters::{Out, Why};
 use auc_persons::{Bidder, Bidding, PersonShard};
 
-/// A shard of the persons, and what its bids are found by.
+/// A shard of the persons, and its bidder.
 #[derive(Drop)]
 pub(crate) struct Buyer {
     pub(crate) shard: PersonShard,
@@ -38,7 +38,7 @@ fn ask(task: &Task, number: u32, buyer: &mut Buyer) -> Bidding
     buyer.shard.next_bid_by(task.rows, task.eps, lists)
 }
 
-/// Asks for bids until nobody is free, but no more than find a place.
+/// Asks for bids until nobody is free, but for no more than there is room for.
 pub(crate) fn ask_all(
     task: &Task,
     number: u32,

@@ -14,7 +14,7 @@ use auc_mail::PostRefused;
 use auc_phases::reason_to_stop;
 use std::sync::Wait;
 
-/// How many bids are posted, or taken, under one lock, at most. With more of them the bids would be made at older
+/// The greatest number of bids that are posted, or taken, under one lock. With more of them bids would be made at older
 /// prices.
 pub(crate) const BATCH: usize = 16;
 
@@ -29,7 +29,7 @@ pub(crate) enum Step {
     Stop { why: Why },
 }
 
-/// How a worker goes on where an open box doesn't accept a letter: as the world does, by the same reasons.
+/// How a worker goes on where an open box refuses a letter: as in the world, by the same reasons.
 fn step_without(letter: Letter, refused: PostRefused) -> Step
     requires { refused ≢ ARefusal.Closed }
     ensures { result ≡ step_without letter refused }
@@ -53,7 +53,7 @@ fn step_after(letter: Letter, posted: Result<u64, CallRefused>) -> Step
     }
 }
 
-/// The box that a letter goes to, in the mail of those who get it.
+/// The box that a letter goes to, in the mail of its receivers.
 fn box_of(to: To) -> u32
     ensures { result ≡ box_of to }
 {
@@ -75,7 +75,7 @@ pub(crate) fn hold<'b, N: MailBrand, R: Wait, G: Gate>(
     mail.hold(rt)
 }
 
-/// The same, once a take from the box gives a letter, or says that none will come, or is refused.
+/// The same, once a take from the box gives a letter, says that none will come, or is refused.
 pub(crate) fn hold_for<'b, N: MailBrand, R: Wait, G: Gate>(
     rt: &R,
     gate: &G,
@@ -90,7 +90,7 @@ pub(crate) fn hold_for<'b, N: MailBrand, R: Wait, G: Gate>(
     mail.hold_for(rt, at)
 }
 
-/// Posts a letter to where it goes.
+/// Posts a letter to its receiver.
 pub(crate) fn post<N: MailBrand>(
     held: &mut HeldMail<'_, Letter, N>,
     seat: &mut Seat<Letter, N>,

@@ -1,4 +1,4 @@
-//! How a worker of the objects deals with bids.
+//! How a worker of the objects answers bids.
 
 ghost use Rattle.std.specs.Prelude.{◌≡◌, ◌≢◌, ◌≤◌, ◌<◌, ◌+◌, ◌++◌, ◌↔◌, [], ◌∷◌, List, Ok, IsTrue, length};
 ghost use Rattle.arrayvec.specs.ArrayVec.{array_vec_len};
@@ -23,10 +23,11 @@ use auc_mail::Taken;
 use auc_objects::{Answers, ObjectShard};
 use std::sync::Wait;
 
-/// How many letters are said of one bid, at most: two answers, and a price to each of 16 shards of the persons.
+/// The greatest number of letters that follow one bid: two answers, and a price to each of 16 shards of the persons.
 const MOST_SAID: usize = 18;
 
-/// How many letters are said of the bids that are taken under one lock, at most: so many of each of a batch.
+/// The greatest number of letters that follow the bids that are taken under one lock: `MOST_SAID` for each bid of a
+/// batch.
 pub(crate) const ROOM: usize = 288;
 
 /// Notes the answers to a bid, in order.
@@ -74,7 +75,7 @@ fn is_accepted(answers: &Answers) -> bool
     !matches!(answers, Answers::Refused { .. })
 }
 
-/// Deals with a letter, and notes what is to be said of it. It stops where that is no bid that fits the shard; then
+/// Answers a letter, and notes the letters that follow. It stops where the letter is no bid that fits the shard; then
 /// nothing is changed.
 fn deal_letter(
     task: &Task,
@@ -101,7 +102,7 @@ fn deal_letter(
     Step::On
 }
 
-/// Deals with what was taken.
+/// Answers what was taken.
 fn deal(
     task: &Task,
     shard: &mut ObjectShard,
@@ -122,7 +123,7 @@ fn deal(
     }
 }
 
-/// Takes the bids that wait, as many as are posted under one lock, and deals with them.
+/// Takes the bids that wait, at most as many as are posted under one lock, and answers them.
 fn deal_each<N: MailBrand>(
     held: &mut HeldMail<'_, Letter, N>,
     task: &Task,
@@ -152,7 +153,7 @@ fn deal_each<N: MailBrand>(
     Step::On
 }
 
-/// Waits for a bid, and deals with all that wait, but no more than a batch.
+/// Waits for a bid, and answers all that wait, but no more than a batch.
 pub(crate) fn deal_next<O: MailBrand, P: MailBrand, H: MailBrand, R: Wait, G: Gate>(
     rt: &R,
     gate: &G,

@@ -1,4 +1,4 @@
-//! What the workers of a phase gave back: holders and prices from the shards of the objects, and the reason for which
+//! The results of the workers of a phase: holders and prices from the shards of the objects, and the reason for which
 //! it ended.
 
 ghost use Rattle.std.specs.Prelude.{ℕ, ◌≡◌, ◌≢◌, ◌<◌, ◌%◌, ◌↔◌, ◌++◌, [], ◌∷◌, map, length, pos, Some, None, IsTrue, IfOk, IfSome, All, slice_index_or};
@@ -45,8 +45,8 @@ pub(crate) fn gather<O: MailBrand, P: MailBrand, H: MailBrand>(
     Ok(Gathered { holders, prices })
 }
 
-/// How many bids each worker of the persons has posted: he makes no other call at the objects' mail, and his seat there
-/// counts them, with trails or without.
+/// The number of bids that each worker of the persons has posted. Such a worker makes no other call at the objects'
+/// mail, and its seat there counts them, with trails or without.
 pub(crate) fn bids_of<O: MailBrand, P: MailBrand, H: MailBrand>(
     alloc: Global,
     works: &[PersonWork<O, P, H>],
@@ -111,7 +111,7 @@ fn reason<O: MailBrand, P: MailBrand, H: MailBrand>(works: &Works<O, P, H>) -> O
     works.hub.why
 }
 
-/// How a phase ended, by what its workers gave back.
+/// How a phase ended, by the results of its workers.
 pub(crate) fn end_of<O: MailBrand, P: MailBrand, H: MailBrand>(
     works: &Works<O, P, H>,
 ) -> Option<End>
@@ -134,8 +134,8 @@ pub(crate) fn end_of<O: MailBrand, P: MailBrand, H: MailBrand>(
     }
 }
 
-/// The end as it is told. Where no trail is kept none is full: of a worker that was turned away since a mail had
-/// counted all calls that it can, nothing is said.
+/// The end as it is reported. Where no trail is kept, none is full. Where a worker was turned away since a mail had
+/// counted all calls that it can, nothing is reported.
 pub(crate) fn told_end(end: Option<End>, audit: u32) -> Option<End>
     ensures kept { 0 < audit → result ≡ end }
     ensures some { IfSome result (λ e. end ≡ Some e) }

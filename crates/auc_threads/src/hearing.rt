@@ -1,4 +1,4 @@
-//! What a worker of the persons hears.
+//! The letters that a worker of the persons hears.
 
 ghost use Rattle.std.specs.Prelude.{◌≡◌, ◌≢◌, ◌<◌, [], ◌∷◌, Ok};
 ghost use Rattle.auc_letters.specs.declared.letter.Why.{Why};
@@ -58,7 +58,7 @@ fn hear(
     }
 }
 
-/// Hears what waits, but no more than two letters for each person.
+/// Hears the letters that wait, but no more than two for each person.
 fn hear_each<N: MailBrand>(
     held: &mut HeldMail<'_, Letter, N>,
     task: &Task,
@@ -87,7 +87,7 @@ fn hear_each<N: MailBrand>(
     Step::On
 }
 
-/// Hears what waits; where the worker has nothing else to do, waits for a letter first.
+/// Hears the letters that wait; where the worker has nothing else to do, it waits for a letter first.
 pub(crate) fn hear_next<O: MailBrand, P: MailBrand, H: MailBrand, R: Wait, G: Gate>(
     rt: &R,
     gate: &G,

@@ -12,19 +12,19 @@ use auc_model::End;
 use auc_phases::Hub;
 use std::sync::Wait;
 
-/// What the hub makes of what it heard.
+/// The effect of what the hub heard.
 #[derive(Clone, Copy, PartialEq, Eq)]
 pub(crate) enum Heard {
     /// It goes on.
     On,
     /// It has counted a First for each person.
     All,
-    /// The phase is to end, for this reason of the hub's own, if it has one: a shard that stops gives its reason
+    /// The phase has to end, for this reason of the hub's own, if it has one: a shard that stops gives its reason
     /// itself.
     End { why: Option<Why> },
 }
 
-/// What the hub gives back: its seats, whether it counted one First for each person, and its own reason to stop.
+/// The result of the hub: its seats, whether it counted one First for each person, and its own reason to stop.
 #[derive(Drop)]
 pub(crate) struct HubWork<O: MailBrand, P: MailBrand, H: MailBrand> {
     pub(crate) seats: WorkerSeats<O, P, H>,
@@ -71,7 +71,8 @@ fn hear(hub: &mut Hub, persons: u32, taken: Result<Taken<Letter>, TrailFull>) ->
     }
 }
 
-/// Closes every box, the hub's last. A close that can't be noted is passed over, since all who wait are woken then too.
+/// Closes every box, the hub's last. A close that can't be noted is passed over, since all workers that wait are woken
+/// then too.
 pub(crate) fn close_all<O: MailBrand, P: MailBrand, H: MailBrand, R: Wait>(
     rt: &R,
     mails: &Mails<O, P, H>,
@@ -88,7 +89,7 @@ pub(crate) fn close_all<O: MailBrand, P: MailBrand, H: MailBrand, R: Wait>(
     let _ = mails.hub.close(rt, &mut seats.hub, 0);
 }
 
-/// Counts until each person has an object, or the phase is to end, and then closes all boxes.
+/// Counts until each person has an object, or the phase has to end, and then closes all boxes.
 pub(crate) fn count<O: MailBrand, P: MailBrand, H: MailBrand, R: Wait>(
     rt: &R,
     mails: &Mails<O, P, H>,

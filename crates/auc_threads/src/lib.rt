@@ -1,4 +1,11 @@
-//! Shard workers in threads of their own, over three mails that they share.
+//! The solver by messages in threads: a thread for each shard of the persons and of the objects, over three mails that
+//! they share.
+//!
+//! The method is the auction algorithm with epsilon scaling (Bertsekas, 1979 and 1988), with shards that bid at copies
+//! of prices. A bid takes O(arcs of the person).
+//!
+//! Proved: each claim in an answer of [`solve_threads`] has passed the checker. Nothing is said of whether a phase
+//! ends.
 #![tactic(auto)]
 
 mod bidding;

@@ -28,7 +28,7 @@ pub struct Mails<O: MailBrand, P: MailBrand, H: MailBrand> {
     pub persons: SharedMail<Letter, P>,
     /// To the hub, with one box.
     pub hub: SharedMail<Letter, H>,
-    /// How many shards there are of each kind.
+    /// The number of shards of each kind.
     pub shards: u32,
     pub(crate) ghost boxes: { AreBoxes O.boxes P.boxes H.boxes shards },
 }
@@ -120,7 +120,7 @@ fn join_seats<O: MailBrand, P: MailBrand, H: MailBrand>(
 impl<O: MailBrand, P: MailBrand, H: MailBrand> Mails<O, P, H> {
     /// The three mails with nothing noted, and the seats of each worker, in order.
     ///
-    /// The conditions tie the names in the types to these arguments: who calls code that is generic over the names
+    /// The conditions tie the names in the types to these arguments: a caller of code that is generic over the names
     /// picks them so.
     pub fn make(
         alloc: Global,

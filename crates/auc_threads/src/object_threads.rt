@@ -13,8 +13,8 @@ use std::snapshot::Snapshot;
 use std::sync::Wait;
 use std::thread::{Promise, PromisedHandle, Scope, Threads};
 
-/// What a thread of the objects promises: its shard comes of the bids that it took, and it has said what is to be said
-/// of them.
+/// The promise of a thread of the objects: its shard is the result of the bids that it took, and it has posted the
+/// letters that follow them.
 #[derive(Drop)]
 pub(crate) struct Sold<O: MailBrand, P: MailBrand, H: MailBrand> {
     pub(crate) eps: i64,
@@ -72,7 +72,7 @@ pub(crate) fn start_objects<
     true
 }
 
-/// Waits for the threads of the objects, and gives what they give back.
+/// Waits for the threads of the objects, and returns their results.
 pub(crate) fn join_objects<
     O: MailBrand + Send + Sync,
     P: MailBrand + Send + Sync,

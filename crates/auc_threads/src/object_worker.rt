@@ -1,4 +1,4 @@
-//! A worker of the objects: it deals with bids until the phase is over.
+//! A worker of the objects: it answers bids until the phase is over.
 
 ghost use Rattle.std.specs.Prelude.{◌≡◌, ◌<◌};
 ghost use Rattle.auc_objects.specs.Objects.{SameShape};
@@ -26,7 +26,7 @@ pub(crate) struct ObjectWorker<O: MailBrand, P: MailBrand, H: MailBrand> {
     pub(crate) seats: WorkerSeats<O, P, H>,
 }
 
-/// What a worker of the objects gives back: its shard and its seats, and why it stopped, if it did.
+/// The result of a worker of the objects: its shard and its seats, and why it stopped, if it did.
 #[derive(Drop)]
 pub(crate) struct ObjectWork<O: MailBrand, P: MailBrand, H: MailBrand> {
     pub(crate) shard: ObjectShard,
@@ -34,8 +34,8 @@ pub(crate) struct ObjectWork<O: MailBrand, P: MailBrand, H: MailBrand> {
     pub(crate) why: Option<Why>,
 }
 
-/// Waits for bids, deals with those that wait, and says what is to be said of them, also where it then ends. What a
-/// refused post is to the worker comes before what it took later.
+/// Waits for bids, answers those that wait, and posts the letters that follow, also where the worker then ends. The
+/// effect of a refused post comes before that of what the worker took later.
 fn serve<O: MailBrand, P: MailBrand, H: MailBrand, R: Wait, G: Gate>(
     rt: &R,
     gate: &G,
@@ -58,7 +58,7 @@ fn serve<O: MailBrand, P: MailBrand, H: MailBrand, R: Wait, G: Gate>(
     took
 }
 
-/// Deals with bids until the phase is over, or it must stop.
+/// Answers bids until the phase is over, or it must stop.
 pub(crate) fn sell<O: MailBrand, P: MailBrand, H: MailBrand, R: Wait, G: Gate>(
     rt: &R,
     gate: &G,

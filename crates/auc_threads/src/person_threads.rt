@@ -16,8 +16,8 @@ use std::snapshot::Snapshot;
 use std::sync::Wait;
 use std::thread::{Promise, PromisedHandle, Scope, Threads};
 
-/// What a thread of the persons promises: it bid and heard, falls only where its seat tells of a fall, and is stuck
-/// only where a person has no arc.
+/// The promise of a thread of the persons: it bid and heard. It reports a fall only where its seat shows one, and is
+/// stuck only where a person has no arc.
 #[derive(Drop)]
 pub(crate) struct Bought<O: MailBrand, P: MailBrand, H: MailBrand> {
     pub(crate) eps: i64,
@@ -78,7 +78,7 @@ pub(crate) fn start_persons<
     true
 }
 
-/// Waits for the threads of the persons, and gives what they give back.
+/// Waits for the threads of the persons, and returns their results.
 pub(crate) fn join_persons<
     O: MailBrand + Send + Sync,
     P: MailBrand + Send + Sync,

@@ -22,14 +22,14 @@ use auc_letters::{Out, Why};
 use auc_persons::PersonShard;
 use std::sync::Wait;
 
-/// A worker of the persons: its shard, with the lists by which it bids, and its seats.
+/// A worker of the persons: its shard, with its candidate lists, and its seats.
 #[derive(Drop)]
 pub(crate) struct PersonWorker<O: MailBrand, P: MailBrand, H: MailBrand> {
     pub(crate) buyer: Buyer,
     pub(crate) seats: WorkerSeats<O, P, H>,
 }
 
-/// What a worker of the persons gives back: its shard and its seats, and why it stopped, if it did.
+/// The result of a worker of the persons: its shard and its seats, and why it stopped, if it did.
 #[derive(Drop)]
 pub(crate) struct PersonWork<O: MailBrand, P: MailBrand, H: MailBrand> {
     pub(crate) shard: PersonShard,
@@ -37,8 +37,8 @@ pub(crate) struct PersonWork<O: MailBrand, P: MailBrand, H: MailBrand> {
     pub(crate) why: Option<Why>,
 }
 
-/// Asks for bids, posts them, also where the next person can't bid, and hears what waits; where there are none, waits
-/// for a letter. What a refused post is to the worker comes first.
+/// Asks for bids, posts them, also where the next person can't bid, and hears the letters that wait; where there are
+/// none, it waits for a letter. The effect of a refused post comes first.
 fn serve<O: MailBrand, P: MailBrand, H: MailBrand, R: Wait, G: Gate>(
     rt: &R,
     gate: &G,

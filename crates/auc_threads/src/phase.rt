@@ -26,20 +26,20 @@ use std::sync::Wait;
 use std::sync::ledger::Blank;
 use std::thread::Threads;
 
-/// What a phase comes to.
+/// The result of a phase.
 #[derive(Drop)]
 pub struct PhaseEnd {
-    /// Who holds each object, and its price.
+    /// The holder of each object, and its price.
     pub gathered: Gathered,
-    /// How many bids each shard of the persons has posted, in order, those that were refused too.
+    /// The number of bids that each shard of the persons has posted, in order, those that were refused too.
     pub bids: Vec<u64>,
-    /// How it ended; None where nothing was said.
+    /// How it ended; None where nothing was reported.
     pub end: Option<End>,
     /// The trails, where all three mails settled.
     pub trails: Option<Trails>,
 }
 
-/// What the phase comes to, of what its workers gave back.
+/// The result of the phase, from those of its workers.
 fn finish<O: MailBrand, P: MailBrand, H: MailBrand>(
     alloc: Global,
     task: &Task,
@@ -95,12 +95,12 @@ fn named_phase<
 ///
 /// `prices` are in scaled costs, from 0 to 2^61, indexed by object; `eps` is in scaled costs, from 1 to 2^60. Every
 /// worker of a shard passes the gate before each time it takes the lock of a mail, for one call or for several.
-/// `limits.audit` is the number of calls that each mail, and each seat at it, has places for; the trails are given
+/// `limits.audit` is the number of calls that each mail, and each seat at it, has places for. The trails are returned
 /// where it is above 0 and all three mails settled with their seats.
 ///
 /// Nothing is said of whether it ends.
 ///
-/// Takes the time of the bids, each O(arcs of the person); O(shards * (persons + objects)) memory, and that for
+/// Takes the time of the bids, each O(arcs of the person). Takes O(shards * (persons + objects)) memory, and that for
 /// 3 * (2 * shards + 2) * audit lines.
 ///
 /// # Errors

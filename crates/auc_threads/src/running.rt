@@ -25,7 +25,7 @@ use std::sync::Wait;
 use std::thread;
 use std::thread::{PromisedHandle, Scope, Threads};
 
-/// What the workers of a phase begin with.
+/// The state of a phase's workers at its start.
 #[derive(Drop)]
 pub(crate) struct Starts<O: MailBrand, P: MailBrand, H: MailBrand> {
     pub(crate) persons: Vec<PersonWorker<O, P, H>>,
@@ -33,7 +33,7 @@ pub(crate) struct Starts<O: MailBrand, P: MailBrand, H: MailBrand> {
     pub(crate) hub: WorkerSeats<O, P, H>,
 }
 
-/// What they give back.
+/// Their results.
 #[derive(Drop)]
 pub(crate) struct Works<O: MailBrand, P: MailBrand, H: MailBrand> {
     pub(crate) persons: Vec<PersonWork<O, P, H>>,
@@ -48,8 +48,8 @@ struct Handles<O: MailBrand, P: MailBrand, H: MailBrand> {
     objects: Vec<PromisedHandle<ObjectWork<O, P, H>, Sold<O, P, H>>>,
 }
 
-/// The workers of the persons, by their seats, each with what its bids are found by, made anew. In a phase no copy of a
-/// price falls, so what is put into them stays right.
+/// The workers of the persons, by their seats, each with a new bidder. In a phase no copy of a price falls, so the
+/// lists in it stay right.
 fn person_starts<O: MailBrand, P: MailBrand, H: MailBrand>(
     alloc: Global,
     task: &Task,

@@ -1,4 +1,4 @@
-//! What a worker of the objects says of the bids that it has dealt with.
+//! The letters that a worker of the objects posts after it has answered bids.
 
 ghost use Rattle.std.specs.Prelude.{◌≡◌, ◌<◌, [], ◌∷◌, false, All};
 ghost use Rattle.auc_phases.specs.Boxes.{Reaches};
@@ -61,7 +61,7 @@ fn post_each<O: MailBrand, P: MailBrand, H: MailBrand>(
     Step::On
 }
 
-/// Whether some letter goes to the hub.
+/// Whether any letter goes to the hub.
 fn has_first(said: &[Out]) -> bool
     ensures { result ≡ false → All (λ o. is_to_hub o.to ≡ false) said.now }
 {
@@ -73,9 +73,9 @@ fn has_first(said: &[Out]) -> bool
     false
 }
 
-/// Says what is to be said of the bids that were dealt with, in order. The hub's lock is taken only where something
-/// goes to it. Then the gate is passed for both mails before either is locked, and the hub's lock is always taken after
-/// the persons'; that one is given up first, since the persons wait for it.
+/// Posts the letters that follow the answered bids, in order. The hub's lock is taken only where a letter goes to it.
+/// Then the gate is passed for both mails before either is locked, and the hub's lock is always taken after the
+/// persons'. The persons' lock is released first, since the persons wait for it.
 pub(crate) fn say<O: MailBrand, P: MailBrand, H: MailBrand, R: Wait, G: Gate>(
     rt: &R,
     gate: &G,

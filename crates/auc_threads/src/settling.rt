@@ -28,7 +28,7 @@ pub(crate) struct AllSeats<O: MailBrand, P: MailBrand, H: MailBrand> {
     hub: Vec<Seat<Letter, H>>,
 }
 
-/// Puts a worker's seats with the others.
+/// Adds a worker's seats to the others.
 fn push_seats<O: MailBrand, P: MailBrand, H: MailBrand>(
     all: &mut AllSeats<O, P, H>,
     seats: WorkerSeats<O, P, H>,

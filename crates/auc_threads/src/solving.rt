@@ -23,7 +23,7 @@ use std::alloc::{AllocError, Global};
 use std::sync::Wait;
 use std::thread::Threads;
 
-/// What a run comes to.
+/// The result of a run.
 #[derive(Drop)]
 pub struct Solved {
     /// The answer.
@@ -32,7 +32,7 @@ pub struct Solved {
     pub phases: Vec<PhaseEnd>,
 }
 
-/// The eps of the phase after one that came to this. None where that is the last one.
+/// The eps of the phase after one with this verdict. None where that is the last one.
 fn eps_behind(verdict: Verdict, eps: i64) -> Option<i64>
     ensures some { IfSome result (λ next. (verdict ≡ Verdict.Sold) × (next_eps eps ≡ Some next)) }
     ensures none { IfNone result (verdict ≡ Verdict.Sold → next_eps eps ≡ None) }
@@ -45,7 +45,7 @@ fn eps_behind(verdict: Verdict, eps: i64) -> Option<i64>
     }
 }
 
-/// Puts a phase after the others.
+/// Appends a phase.
 fn note(phases: &mut Vec<PhaseEnd>, ended: PhaseEnd) -> Result<(), AllocError>
     ensures { OnOk result (phases.new.items ≡ phases.old.items ++ ended ∷ []) }
 {
@@ -53,8 +53,8 @@ fn note(phases: &mut Vec<PhaseEnd>, ended: PhaseEnd) -> Result<(), AllocError>
     Ok(())
 }
 
-/// Solves a problem that has an assignment: a phase at each eps, and each begins with the prices of the one before, the
-/// first with these.
+/// Solves a problem that has an assignment: a phase at each eps. The first begins with these prices, each other one
+/// with the prices of the one before.
 fn solve_rows<R: Threads + Wait + Sync, G: Gate + Sync>(
     rt: &R,
     alloc: Global,
@@ -108,20 +108,26 @@ fn unsolved(alloc: Global, answer: Answer) -> Solved
 /// Solves a problem by shards in threads: a thread for each shard of the persons and of the objects in each phase, and
 /// the hub on the caller's.
 ///
-/// First an assignment of any cost is searched ([`auc_hall::complete`]); where there is none, the answer is
-/// `Infeasible`, and there is no phase. Else phases run as those of [`auc_world::solve_serial`], from prices of 0 at
-/// [`first_eps`] on, each by [`phase_threads`]: the next one at [`next_eps`] and the prices that were left, where each
-/// person got an object and the mails settled, if trails are kept. The last phase decides: `Optimal` and `Bracket` are
-/// claims of its holders and prices that have passed the checker. `Broken` is answered where its mails didn't settle,
-/// nothing was said of its end, a price fell, a letter was stray, or its holders make no claim; never for a person with
-/// no arc.
+/// First an assignment of any cost is searched for ([`auc_hall::complete`]); where there is none, the answer is
+/// `Infeasible`, and there is no phase.
+///
+/// Else phases run as those of [`auc_world::solve_serial`], from prices of 0 at [`first_eps`] on, each by
+/// [`phase_threads`]. The next one is at [`next_eps`] and the prices that were left, where each person got an object
+/// and the mails settled, if trails are kept. The last phase decides: `Optimal` and `Bracket` are claims of its holders
+/// and prices that have passed the checker.
+///
+/// `Broken` is answered for one of these causes, never for a person with no arc:
+///
+/// - The mails of the last phase didn't settle, or nothing was reported of its end.
+/// - A price fell, or a letter was stray.
+/// - Its holders make no claim.
 ///
 /// Every worker of a shard passes the gate before each time it takes the lock of a mail. Where `limits.audit` is above
 /// 0, each mail and each seat at it have places for as many calls, and the phases have trails. Nothing is said of
 /// whether a phase ends.
 ///
-/// Takes the time of the search and of the bids, each O(arcs of the person); beside the memory of the problem and its
-/// rows, that of one phase and of the trails of all.
+/// Takes the time of the search and of the bids, each O(arcs of the person). Takes the memory of the problem and its
+/// rows, of one phase, and of the trails of all.
 ///
 /// # Errors
 ///
@@ -148,7 +154,7 @@ pub fn solve_threads<R: Threads + Wait + Sync, G: Gate + Sync>(
     }
 }
 
-/// Solves a problem as [`solve_threads`] does, but from start prices, in one phase at the last eps: see
+/// Solves a problem as [`solve_threads`] does, but from start prices (a warm start), in one phase at the last eps: see
 /// [`auc_world::solve_serial_from`], and [`auc_claim::start_prices`] for those of an old certificate. They are scaled
 /// costs, indexed by object, from 0 to 2^60, and as many as the persons.
 ///

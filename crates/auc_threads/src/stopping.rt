@@ -11,7 +11,7 @@ use auc_book::{MailBrand, Seat, SharedMail};
 use auc_letters::{Letter, Why};
 use std::sync::Wait;
 
-/// Tells the hub why a worker stops; where that can't be posted, for whatever reason, closes the hub's box.
+/// Posts to the hub why a worker stops. Where that can't be posted, for whatever reason, it closes the hub's box.
 fn post_stop<N: MailBrand, R: Wait, G: Gate>(
     rt: &R,
     gate: &G,
@@ -29,7 +29,7 @@ fn post_stop<N: MailBrand, R: Wait, G: Gate>(
     }
 }
 
-/// What a worker does at its end, by the hub's mail: where it stops the phase, it tells the hub why.
+/// The last act of a worker, at the hub's mail: where it stops the phase, it posts the reason to the hub.
 pub(crate) fn end<N: MailBrand, R: Wait, G: Gate>(
     rt: &R,
     gate: &G,

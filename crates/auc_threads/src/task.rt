@@ -1,4 +1,4 @@
-//! What a phase is run on, and where it runs: one of the two is passed by reference to each function of a phase.
+//! The input of a phase, and its mails: one of the two is passed by reference to each function of a phase.
 
 ghost use Rattle.auc_letters.specs.Price.{IsEps};
 ghost use Rattle.auc_phases.specs.Begins.{ArePrices};
@@ -9,17 +9,16 @@ use auc_book::MailBrand;
 use auc_graph::Rows;
 use auc_phases::Limits;
 
-/// What a phase is run on. That all of it is in range is proved where one is made, so that no function has to ask for
-/// it.
+/// The input of a phase. That all of it is in range is proved where one is made, so no function has to require it.
 #[derive(Clone, Copy)]
 pub(crate) struct Task<'a> {
     /// The arcs of each person.
     pub(crate) rows: &'a Rows,
-    /// How many shards there are of each kind, and how much each of them may do.
+    /// The number of shards of each kind, and their limits.
     pub(crate) limits: &'a Limits,
     /// The prices that the phase begins with, in scaled costs, indexed by object.
     pub(crate) prices: &'a [i64],
-    /// By how much a bid has to be above a price, in scaled costs.
+    /// How far a bid has to be above a price, in scaled costs.
     pub(crate) eps: i64,
     pub(crate) ghost limits_are: { AreThreadLimits limits.now },
     pub(crate) ghost prices_are: { ArePrices rows.now prices.now },
@@ -31,7 +30,7 @@ pub(crate) struct Task<'a> {
 pub(crate) struct PhaseRun<'a, O: MailBrand, P: MailBrand, H: MailBrand> {
     /// What it is run on.
     pub(crate) task: Task<'a>,
-    /// The mails by which its workers write to one another.
+    /// The mails between its workers.
     pub(crate) mails: &'a Mails<O, P, H>,
     pub(crate) ghost boxes: { AreBoxes O.boxes P.boxes H.boxes task.limits.now.shards },
 }

@@ -1,4 +1,4 @@
-//! What a phase comes to for the run: it goes on or claims a least cost, or it was stopped by a limit, or a guard was
+//! The verdict of a phase: the run goes on or claims a least cost, or the phase was stopped by a limit, or a guard was
 //! hit.
 
 ghost use Rattle.std.specs.Prelude.{◌≡◌, ◌≢◌, length, All, IfOk, Some};
@@ -16,18 +16,18 @@ use auc_model::End;
 use auc_phases::Limits;
 use std::alloc::{AllocError, Global};
 
-/// What a phase comes to for the run.
+/// The verdict of a phase.
 #[derive(Clone, Copy, Debug, PartialEq, Eq)]
 pub enum Verdict {
     /// Each person has an object.
     Sold,
     /// A limit has stopped it.
     Stopped { reason: Reason },
-    /// A guard was hit, nothing was said of its end, or its mails didn't settle.
+    /// A guard was hit, nothing was reported of its end, or its mails didn't settle.
     Broken { guard: Guard },
 }
 
-/// What a phase comes to for the run. Where trails are to be kept and it has none, that alone counts. O(1).
+/// The verdict of a phase. Where trails are to be kept and it has none, that alone counts. O(1).
 pub fn verdict_of(limits: &Limits, ended: &PhaseEnd) -> Verdict
     ensures { result ≡ verdict_of limits.now ended.now }
 {
@@ -58,7 +58,7 @@ fn copy_of(alloc: Global, gathered: &Gathered) -> Result<Gathered, AllocError>
     Ok(Gathered { holders, prices })
 }
 
-/// The answer of a run whose last phase has come to this, with these holders and prices.
+/// The answer of a run whose last phase has this verdict, with these holders and prices.
 pub(crate) fn decide(
     alloc: Global,
     problem: &ArcList,

@@ -1,6 +1,6 @@
-//! A phase with one shard of each kind, played by itself: the same rounds as those of a [`crate::World`], of which only
-//! what such a round needs is kept. What waits in a mail between two turns of a round is handed on, and what waits from
-//! one round to another, which are the answers to the persons, is one queue. The world that is seen in it is defined in
+//! A phase with one shard of each kind, played without a [`crate::World`]: the same rounds, of which only what such a
+//! round needs is kept. A letter between two turns of a round is passed on directly. The letters from one round to the
+//! next, which are the answers to the persons, are one queue. The world that this state means is defined in
 //! `specs/Alone.antt`.
 
 mod kept;

@@ -1,5 +1,5 @@
-//! What holds of every world that [`World::make`] gave and turns have led to. The functions do nothing: their contracts
-//! are theorems.
+//! Laws of every world that [`World::make`] gave and turns have led to. The functions do nothing: their contracts are
+//! theorems.
 
 ghost use Rattle.std.specs.Prelude.{true, ℕ, ℤ, pos, ◌<◌, ◌≤◌, ◌≤ℤ◌, ◌≡◌, ◌≢◌, ◌⊎◌, List, [], ◌∷◌, Some, None, All, Contains, length, map};
 ghost use Rattle.auc_claim.specs.declared.cert.CertParts.TheVariants.{Optimal};
@@ -33,11 +33,15 @@ ghost use Rattle.auc_world.specs.Parts.{phase, world_of};
 use crate::world::World;
 
 impl<'a> World<'a> {
-    /// No guard is hit, whatever the turns were: the phase hasn't stopped for a price that fell, a stray letter or a
-    /// full trail; the next letter that a shard of the persons takes fits it and tells no price below its copy, the
-    /// next one that a shard of the objects takes is a bid that fits it, and the next one that the hub takes is a First
-    /// or a Stop. With the usual numbers of letters that may wait, only a Price meets a full mail. A law, which does
-    /// nothing.
+    /// No guard is hit, whatever the turns were:
+    ///
+    /// - The phase hasn't stopped for a price that fell, a stray letter or a full trail.
+    /// - The next letter that a shard of the persons takes fits it, and has no price below its copy.
+    /// - The next letter that a shard of the objects takes is a bid that fits it.
+    /// - The next letter that the hub takes is a First or a Stop.
+    /// - With the usual numbers of letters that may wait, only a Price meets a full mail.
+    ///
+    /// A law, which does nothing.
     pub fn no_guard_is_hit(&self)
         requires { Reached (phase self.now) (world_of self.now) }
         ensures fell { (world_of self.now).end ≢ Some (End.Stopped Why.Fell) }
@@ -54,9 +58,9 @@ impl<'a> World<'a> {
             → Refuses (phase self.now) (world_of self.now) h o PostRefused.Full → is_price o.letter ≡ true }
     {}
 
-    /// No copy of a price is above the true one, nobody holds two objects, and each holder's arc is one of his to that
-    /// object, slack-right at eps at the true prices; the hub has counted no more than there are persons. A law, which
-    /// does nothing.
+    /// No copy of a price is above the true one, and nobody holds two objects. Each holder's arc is one of the holder's
+    /// to that object, slack-right at eps at the true prices (epsilon-complementary slackness). The hub has counted no
+    /// more than there are persons. A law, which does nothing.
     pub fn holders_are_slack_right(&self)
         requires { Reached (phase self.now) (world_of self.now) }
         ensures copies_low { (s j : ℕ) → (world_of self.now).copy s j ≤ℤ (world_of self.now).price j }
@@ -82,10 +86,10 @@ impl<'a> World<'a> {
     {}
 }
 
-/// Where the hub has counted as many as there are persons, the holders' arcs are an assignment; and at eps 1 the
-/// checker finds no fault in it with the true prices, so it costs least; there are as many objects as persons, or what
-/// nobody holds has no price, as in each world that was made with every price 0 (clause `unheld` of [`World::turn`]). A
-/// law, which does nothing.
+/// Where the hub has counted as many as there are persons, the holders' arcs are an assignment. At eps 1 the checker
+/// finds no fault in it with the true prices, so it has the least cost. That needs as many objects as persons, or price
+/// 0 of each object that nobody holds. The second is so in each world that was made with every price 0 (clause `unheld`
+/// of [`World::turn`]). A law, which does nothing.
 pub fn counted_holders_pass_the_checker()
     ensures { (p : Problem) (t : Table) (shards : ℕ) (v : Model) (prices : List ℤ) → IsProblem p → IsTable t
         → IsTableOf p t → (IsSquare p ⊎ ((j : ℕ) → v.holder j ≡ None → v.price j ≡ pos 0))

@@ -33,7 +33,7 @@ pub(crate) fn new_person_shards(
     Ok(made)
 }
 
-/// What the bids of the shards of the persons are found by, by shard.
+/// A new bidder for each shard of the persons.
 pub(crate) fn new_bidders(
     alloc: Global,
     shards: u32,

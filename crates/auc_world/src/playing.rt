@@ -8,8 +8,8 @@ ghost use Rattle.auc_world.specs.Parts.{phase, world_of};
 use crate::world::World;
 use auc_model::Turn;
 
-/// Takes these turns, one after another, whatever each is answered. No copy of a price falls. Takes the time of its
-/// turns, and no memory.
+/// Takes these turns, one after another, whatever each reply is. No copy of a price falls. Takes the time of its turns,
+/// and no memory.
 pub fn play(world: &mut World, turns: &[Turn])
     ensures schedule { Schedule (phase world.old) (world_of world.old) turns.now (world_of world.new) }
     ensures phase { phase world.new ≡ phase world.old }

@@ -1,4 +1,4 @@
-//! The post office of a world: what each shard has still to post, and the three mails.
+//! The post office of a world: the outbox of each shard, and the three mails.
 
 ghost use Rattle.std.specs.Prelude.{◌≡◌, ◌≤◌, ◌<◌, ◌+◌, ◌*◌, [], ◌∷◌, length, slice_set, All, IsTrue, ◌↔◌, IfOk};
 ghost use Rattle.auc_graph.specs.declared.limits.TheConstants.{MOST_PERSONS};
@@ -45,7 +45,7 @@ impl Model for PostOffice {
 }
 
 impl PostOffice {
-    /// No letters, with the room that these limits give where there are so many persons.
+    /// A post office with no letters, with the room that these limits give where there are `persons` persons.
     ///
     /// # Errors
     ///
@@ -106,7 +106,7 @@ impl PostOffice {
         outbox.put(out);
     }
 
-    /// Puts letters into the outbox of a sender, in place of all that were there.
+    /// Puts letters into the outbox of a sender, in place of all that it has.
     #[inline]
     pub(crate) fn put_all(&mut self, sender: u32, letters: ArrayVec<Out, 4>)
         requires { sender < length self.old.outboxes }

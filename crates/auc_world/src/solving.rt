@@ -26,7 +26,7 @@ use auc_phases::{LAST_EPS, Limits, first_eps, next_eps};
 use std::alloc::{AllocError, Global};
 use std::mem;
 
-/// What a phase comes to.
+/// The result of a phase.
 #[derive(Drop)]
 pub(crate) enum Outcome {
     /// Each person has an object: these are the holders and prices.
@@ -37,7 +37,7 @@ pub(crate) enum Outcome {
     Broken(Guard),
 }
 
-/// Plays one phase in whole rounds of a world; what its bids are found by outlasts it where all is sold.
+/// Plays one phase in whole rounds of a world. Where all is sold, the bidders are kept for the next phase.
 fn play_world(
     alloc: Global,
     rows: &Rows,
@@ -73,8 +73,8 @@ fn play_world(
     }
 }
 
-/// Plays one phase in whole rounds, by itself where it may be; what its bids are found by outlasts it where all is
-/// sold.
+/// Plays one phase in whole rounds, with the machine of one shard of each kind where it may. Where all is sold, the
+/// bidders are kept for the next phase.
 fn play_phase(
     alloc: Global,
     rows: &Rows,
@@ -97,8 +97,8 @@ fn play_phase(
     play_world(alloc, rows, limits, prices, eps, bidders)
 }
 
-/// Solves a problem in which each person has an arc: a phase at each eps, and each begins with the prices of the one
-/// before, the first with these.
+/// Solves a problem in which each person has an arc: a phase at each eps. The first begins with these prices, each
+/// other one with the prices of the one before.
 fn solve_rows(
     alloc: Global,
     problem: &ArcList,
@@ -117,7 +117,7 @@ fn solve_rows(
     ensures is { IfOk result (IsAnswer problem.now) }
     ensures run { (start : Option (List ℤ)) → Begins rows.now start eps prices.items → IfOk result (IsOfRun problem.now limits.now start) }
 {
-    // Read here, so that the proof knows what every problem and its rows keep.
+    // Read here, so that the proof knows the invariants of the problem and its rows.
     let _ = problem.arcs();
     let _ = rows.objects();
     let mut prices = prices;
@@ -141,18 +141,18 @@ fn solve_rows(
     }
 }
 
-/// Solves a problem: an arc for each person, no object twice, of the least cost together; or persons who together know
-/// fewer objects than they number; or, where the limits are too low, an assignment and a bound on what any costs. Each
-/// claim has passed the checker.
+/// Solves a problem. The answer is a least-cost assignment, a Hall set, or, where the limits are too low, a bracket: an
+/// assignment and a bound below which none costs. Each claim has passed the checker.
 ///
-/// First an assignment of any cost is searched ([`auc_hall::complete`]); where there is none, the answer is
-/// `Infeasible`. Else the auction algorithm with epsilon scaling (Bertsekas, 1979 and 1988) runs in phases, from prices
-/// of 0 at [`first_eps`] on, each next one at [`next_eps`] and the prices that the one before has left, all persons
-/// free. A phase is a new world that is played in whole rounds, in which every shard has its turns in order, until it
-/// ends.
+/// First an assignment of any cost is searched for ([`auc_hall::complete`]); where there is none, the answer is
+/// `Infeasible`. Else the auction algorithm with epsilon scaling (Bertsekas, 1979 and 1988) runs in phases. The first
+/// phase is at [`first_eps`], from prices of 0. Each next one is at [`next_eps`], from the prices that the one before
+/// has left, with all persons free. A phase is a new world that is played in whole rounds, in which every shard has its
+/// turns in order, until it ends.
 ///
-/// Where a limit ends a phase, the answer is a `Bracket`: the holders' arcs are completed to an assignment of any cost,
-/// and the prices bound the cost of all from below. `Broken` is never answered. `limits.audit` isn't looked at.
+/// Where a limit ends a phase, the answer is a `Bracket`. The holders' arcs are completed to an assignment of any cost,
+/// and the prices give a lower bound (dual bound) of the cost of all. `Broken` is never answered. `limits.audit` is
+/// ignored.
 ///
 /// Takes the time of the search and of the bids, each O(arcs of the person), and 28 bytes of memory an arc, the
 /// problem's own among them.
@@ -174,11 +174,11 @@ pub fn solve_serial(alloc: Global, problem: &ArcList, limits: &Limits) -> Result
     }
 }
 
-/// Solves a problem as [`solve_serial`] does, but from start prices, such as those of a certificate of the same problem
-/// with other costs ([`auc_claim::start_prices`]): in one phase, at the last eps.
+/// Solves a problem as [`solve_serial`] does, but from start prices (a warm start), in one phase at the last eps. They
+/// may be those of a certificate of the same problem with other costs ([`auc_claim::start_prices`]).
 ///
 /// The start prices are scaled costs, indexed by object, from 0 to 2^60, and as many as the persons. The answer is as
-/// good from any of them; good ones spare bids, and bad ones cost them.
+/// good from any of them; good ones save bids, and bad ones cost bids.
 ///
 /// # Errors
 ///

@@ -45,7 +45,7 @@ pub struct World<'a> {
     objects: Vec<ObjectShard>,
     stopped: Vec<bool>,
     post: PostOffice,
-    // By shard of the persons; of no importance to what any turn does, so no contract of a turn speaks of it.
+    // By shard of the persons. They don't change what any turn does, so no contract of a turn speaks of them.
     bidders: Vec<Bidder>,
 }
 
@@ -61,10 +61,10 @@ impl<'a> Model for World<'a> {
 }
 
 impl<'a> World<'a> {
-    /// The world that a phase begins with: the prices are these, each copy of a price is that price, every person is
+    /// The world at the start of a phase: the prices are these, each copy of a price is that price, every person is
     /// free, and nothing was sent.
     ///
-    /// `prices` are in scaled costs, indexed by object; `eps` is in scaled costs. `limits.audit` isn't looked at.
+    /// `prices` are in scaled costs, indexed by object; `eps` is in scaled costs. `limits.audit` is ignored.
     ///
     /// Takes O((persons + objects) * shards + nodes + arcs) time and memory, and is the only call that takes memory.
     ///
@@ -92,15 +92,14 @@ impl<'a> World<'a> {
         ensures copies { IfOk result
             (λ w. (s j : ℕ) → s < limits.now.shards → (world_of w).copy s j ≡ slice_index_or prices.now j (pos 0)) }
     {
-        // Read here, so that the proof knows what all rows keep.
+        // Read here, so that the proof knows the invariant of the rows.
         let _ = rows.persons();
         let bidders = new_bidders(alloc, limits.shards, rows)?;
         let world = World::assemble(alloc, rows, limits, prices, eps, bidders)?;
         Ok(world)
     }
 
-    /// The same world, whose shards of the persons find their bids by these, by shard: those of the worlds before, of
-    /// lower prices, or new ones.
+    /// The same world with these bidders, by shard: those of the worlds before, of lower prices, or new ones.
     pub(crate) fn make_with(
         alloc: Global,
         rows: &'a Rows,
@@ -123,7 +122,7 @@ impl<'a> World<'a> {
         Ok(world)
     }
 
-    /// What the bids are found by, for the world of the next phase.
+    /// The bidders, for the world of the next phase.
     pub(crate) fn into_bidders(self) -> Vec<Bidder>
         ensures kept { AreKept self.entry.table self.entry.persons result.items }
         ensures sound { AreParts self.entry }
@@ -163,7 +162,7 @@ impl<'a> World<'a> {
         })
     }
 
-    /// How many shards there are of each kind.
+    /// The number of shards of each kind.
     #[inline]
     pub(crate) fn shards(&self) -> u32
         ensures is { result ≡ self.now.shards }
@@ -181,7 +180,7 @@ impl<'a> World<'a> {
         shard < self.shards
     }
 
-    /// How many objects there are.
+    /// The number of objects.
     #[inline]
     pub(crate) fn object_count(&self) -> u32
         ensures is { result ≡ self.now.table.objects }
@@ -209,7 +208,7 @@ impl<'a> World<'a> {
         self.objects[shard as usize].price(object)
     }
 
-    /// Who holds an object, if anybody does.
+    /// The holder of an object, if there is one.
     #[inline]
     pub(crate) fn holder(&self, object: u32) -> Option<Held>
         requires { object < self.now.table.objects }
@@ -227,7 +226,7 @@ impl<'a> World<'a> {
         self.hub.end()
     }
 
-    /// The phase ends so, unless it has ended before.
+    /// Ends the phase so, unless it has ended before.
     #[inline]
     pub(crate) fn end_with(&mut self, end: End)
         ensures { self.new ≡ record self.old { hub = ending self.old.hub end } }

@@ -55,7 +55,7 @@ fn letters_settle<N: MailBrand, R: Wait + Abort>(
         }),
     );
     seats.push(seat)?;
-    // The law by which letters that are equal are the same, which `settle` asks for.
+    // The law by which equal letters are the same, which `settle` requires.
     equal_letters_are_same();
     let trail = mail.settle(seats)?;
     assert_same(rt, trail.lines().len(), 2);

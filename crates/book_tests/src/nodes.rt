@@ -1,4 +1,4 @@
-//! Calls on small pools, and what they answer.
+//! Calls on small pools, and their answers.
 
 ghost use Rattle.std.specs.Prelude.{◌≡◌, length};
 
@@ -8,7 +8,7 @@ use std::alloc::Global;
 use std::process::Abort;
 use std::test::Fail;
 
-/// A pool beside the number of its lists. A test fails at a list that isn't there.
+/// A pool beside the number of its lists. A test fails at a list that doesn't exist.
 #[derive(Drop)]
 struct Lists {
     count: u32,
@@ -87,7 +87,7 @@ fn lists_share_the_nodes(rt: HostRuntime) -> Result<(), Fail> {
     Ok(())
 }
 
-// After each of these every node can still be had, and in order.
+// After each of these every node can still be used, and in order.
 #[test]
 fn no_node_is_lost(rt: HostRuntime) -> Result<(), Fail> {
     let mut pool = Lists::new(rt.alloc(), 3, 3)?;

@@ -1,4 +1,4 @@
-//! A mail with its trail in one thread: answers, the order of refusals, and what stands after them.
+//! A mail with its trail in one thread: answers, the order of refusals, and the state after them.
 
 ghost use Rattle.std.specs.Prelude.{◌↔◌, IsTrue};
 ghost use Rattle.auc_mail.specs.Mail.{HasLane};
@@ -9,7 +9,7 @@ use auc_mail::{Call, Taken};
 use std::process::Abort;
 use std::test::*;
 
-// Whether the first box and the worker are there.
+// Whether the first box and the worker exist.
 fn is_lane(state: &MailState<i64>, worker: u32) -> bool
     ensures { IsTrue result ↔ HasLane state.now.mail 0 worker }
 {
@@ -60,7 +60,7 @@ fn the_fourth_call_finds_no_place(rt: HostRuntime) -> Result<(), Fail> {
     Ok(())
 }
 
-// Where several causes hold, the first one is told. All refusals but that of a full trail are calls.
+// Where there are several causes, the first one is returned. All refusals but that of a full trail are calls.
 #[test]
 fn a_full_trail_before_closed_before_spent_before_full(rt: HostRuntime) -> Result<(), Fail> {
     let mut state = MailState::make(rt.alloc(), 1, 2, 1, 1, 0i64, 6)?;

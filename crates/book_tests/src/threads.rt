@@ -18,7 +18,7 @@ fn item_of(worker: u32, number: u64) -> u64 {
     u64::from(worker).wrapping_mul(10).wrapping_add(number)
 }
 
-// How many letters the lines tell of, and whether each is the one of its sender with its number.
+// The number of letters in the lines, and whether each is the one of its sender with its number.
 fn letters(lines: &[TrailLine<u64>]) -> (u32, bool) {
     let mut count: u32 = 0;
     let mut right = true;

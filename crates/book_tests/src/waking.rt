@@ -13,10 +13,10 @@ use std::sync::ledger::Blank;
 use std::test::*;
 use std::thread::{Threads, join, yield_now};
 
-/// How often the others may run before the call that takes the last place: till then those who wait sleep.
+/// How often the others may run before the call that takes the last place: until then those that wait sleep.
 const TURNS: u32 = 20_000;
 
-/// What a wait comes to.
+/// The result of a wait.
 type Waited = Result<Taken<u64>, TrailFull>;
 
 // Nobody waits at the third box.
@@ -27,7 +27,7 @@ fn a_letter_to_another_box(rt: HostRuntime) -> Result<(), Fail> {
     Ok(())
 }
 
-// The letter for which one of them waits: he doesn't get it any more.
+// The letter that one of them waits for: that worker doesn't get it any more.
 #[test]
 fn a_letter_to_one_of_them(rt: HostRuntime) -> Result<(), Fail> {
     let posted = wakes_all::<Brand, _>(&rt, rt.alloc(), Blank::new(3), 1, 4)?;
@@ -74,7 +74,7 @@ fn wakes_all<N: MailBrand + Send + Sync, R: Wait + Threads + Abort + Sync>(
     Ok(posted)
 }
 
-// Each of the two waits for a letter of a box of his own.
+// Each of the two waits for a letter of a box of its own.
 fn wait_at_both<N: MailBrand + Send + Sync, R: Wait + Threads + Sync>(
     rt: &R,
     mail: &SharedMail<u64, N>,

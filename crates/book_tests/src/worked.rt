@@ -63,7 +63,7 @@ fn four_calls<N: MailBrand, R: Wait + Abort>(
     Ok(())
 }
 
-// What the mail settles to after these calls, with the seats of both workers, the second one's first, or with the first
+// The result of settling after these calls, with the seats of both workers, the second one's first, or with the first
 // one's alone.
 fn settled<N: MailBrand, R: Wait + Abort>(
     rt: &R,

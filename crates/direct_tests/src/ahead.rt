@@ -1,4 +1,4 @@
-//! The last phase before its turn: where the first phase took few bids it ends the run, or is given up. And a run that
+//! The last phase, tried early: where the first phase took few bids it ends the run, or is given up. And a run that
 //! ends before it comes, since prices were refined.
 
 ghost use Rattle.std.specs.Prelude.{false, true, ◌≤◌};
@@ -8,11 +8,12 @@ use auc_direct::{Progress, Watch, solve_direct_watched};
 use auc_graph::{Arc, ArcList};
 use std::test::*;
 
-/// Four persons, who each know an object for 1 and another one for the most: in the first phase each bids once.
+/// Four persons, who each have an arc of cost 1 and another one of the greatest cost: in the first phase each bids
+/// once.
 const LEVELS: &str =
     "4\n1 1 1 1 2 1000000\n2 2 1 2 3 1000000\n3 3 1 3 4 1000000\n4 1 1000000 4 4 1\n";
 
-/// Remembers how often it was asked, and at which eps first, then and last; and goes on.
+/// Counts how often it was asked, and keeps the first, the second and the last eps; and goes on.
 #[derive(Drop)]
 struct Ear {
     questions: u32,
@@ -52,10 +53,10 @@ fn listening() -> Ear {
     }
 }
 
-/// Groups of three, of whom each has two objects for nothing and the third one for 10, and others who have their own
-/// for nothing, the next one for 100, and the third one of a group for 1, so that its price isn't made up for before
-/// the first phase: that gives the third object away at a great eps, and the last one would take many small steps up to
-/// that price.
+/// Groups of three, of whom each has two objects at cost 0 and the third one at 10. The other persons each have their
+/// own object at cost 0, the next one at 100, and the third one of a group at 1. So column reduction doesn't give that
+/// object its price. The first phase sells it at a great eps, and the last phase would take many small steps up to that
+/// price.
 fn groups(rt: &HostRuntime, groups: u32, others: u32) -> Result<ArcList, Fail>
     requires some { 1 ≤ groups }
     requires groups { groups ≤ 1000 }

@@ -1,4 +1,4 @@
-//! Random problems: what is claimed is what the solver by letters claims.
+//! Random problems: the claim of the direct solver is that of the solver by messages.
 
 ghost use Rattle.std.specs.Prelude.{IfOk};
 ghost use Rattle.auc_phases.specs.Limits.{AreLimits};
@@ -28,8 +28,8 @@ impl Dice {
     }
 }
 
-/// How many problems are drawn, of how many persons at least, of how many more objects, how many costs there are, and
-/// whether these lie far apart.
+/// The number of problems, the least number of persons, the number of objects above that of persons, the number of
+/// different costs, and whether these differ much.
 #[derive(Clone, Copy)]
 struct Shape {
     problems: u32,
@@ -39,7 +39,7 @@ struct Shape {
     is_wide: bool,
 }
 
-/// Some persons, each of whom knows few objects.
+/// Some persons, each of whom has arcs to few objects.
 const SMALL: Shape = Shape {
     problems: 100,
     least: 1,
@@ -48,7 +48,7 @@ const SMALL: Shape = Shape {
     is_wide: false,
 };
 
-/// So many that each knows some 60 objects, for which he has a list of candidates.
+/// So many persons that each has arcs to some 60 objects, and so a candidate list.
 const LONG: Shape = Shape {
     problems: 5,
     least: 90,
@@ -78,8 +78,8 @@ fn problem_of(rt: &HostRuntime, dice: &mut Dice, shape: Shape) -> Result<ArcList
     ArcList::from_arcs(persons, objects, arcs).map_err(|_| Fail::new("no problem"))
 }
 
-/// A price war: all want the same objects in the same order, and know nearly all, each some 15 of 16. So many lists of
-/// a person are made.
+/// A price war: all persons prefer the same objects in the same order, and have arcs to nearly all, each to some 15 of
+/// 16. So many lists of a person are made.
 fn war(rt: &HostRuntime) -> Result<ArcList, Fail> {
     let persons = 300;
     let mut arcs = Vec::new(rt.alloc());
@@ -97,7 +97,7 @@ fn war(rt: &HostRuntime) -> Result<ArcList, Fail> {
     ArcList::from_arcs(persons, persons, arcs).map_err(|_| Fail::new("no problem"))
 }
 
-/// The second line of a text: what it claims, how many, and the cost.
+/// The second line of a text: the kind of the claim, the size, and the cost.
 fn claim_of(text: &[u8]) -> &[u8] {
     let mut lines = text.split(|byte| *byte == b'\n');
     let _ = lines.next();
@@ -123,7 +123,7 @@ fn is_alike(rt: &HostRuntime, problem: &ArcList) -> Result<bool, Fail> {
     Ok(claim_of(direct.as_slice()) == claim_of(serial.as_slice()))
 }
 
-/// Whether they do of the problems of a shape.
+/// Whether they do for the problems of a shape.
 fn are_alike(rt: &HostRuntime, shape: Shape) -> Result<bool, Fail> {
     let mut dice = Dice { state: 7 };
     for _ in 0..shape.problems {
@@ -142,7 +142,7 @@ fn square(rt: HostRuntime) -> Result<(), Fail> {
     Ok(())
 }
 
-/// Costs of two levels, for which the last phase comes before its turn.
+/// Costs of two levels, for which the last phase is tried early.
 #[test]
 fn two_levels(rt: HostRuntime) -> Result<(), Fail> {
     let levels = Shape {

@@ -1,4 +1,4 @@
-//! What is answered where there is one least assignment, or none, up to the prices.
+//! The answers where there is one least assignment, or none, up to the prices.
 
 use crate::texts::{AMPLE, answered, problem_of};
 use std::test::*;
@@ -32,7 +32,7 @@ const CLAIMS: [(&str, u32, &str); 10] = [
         0,
         "auction 1\noptimal 3 5\nassign 1 2 1\nassign 2 1 2\nassign 3 3 2\nprice 1 ",
     ),
-    // Costs at their ends.
+    // The least and the greatest cost.
     (
         "2\n1 1 1000000000 1 2 -1000000000 2 1 -1000000000 2 2 999999999\n",
         0,
@@ -44,7 +44,7 @@ const CLAIMS: [(&str, u32, &str); 10] = [
         "auction 1\ninfeasible 2 1\nperson 1\nperson 2\nobject 1\n",
     ),
     ("2\n1 1 1\n", 0, "auction 1\ninfeasible 1 0\nperson 2\n"),
-    // More objects than persons: what is left over has no price.
+    // More objects than persons: an object that nobody takes has price 0.
     (
         "2\n1 1 5 1 2 1\n2 2 2 2 3 9\n",
         4,
@@ -67,7 +67,7 @@ fn claims(rt: HostRuntime) -> Result<(), Fail> {
     Ok(())
 }
 
-/// More objects than persons: what nobody takes has no price.
+/// More objects than persons: an object that nobody takes has price 0.
 #[test]
 fn left_over(rt: HostRuntime) -> Result<(), Fail> {
     let problem = problem_of(&rt, "2\n1 1 5 1 2 1\n2 2 2 2 3 9\n", 4)?;

@@ -1,4 +1,4 @@
-//! Worked examples of the solver in one hand: tests of `auc_direct` by its public calls alone.
+//! Worked examples of the direct solver: tests of `auc_direct` by its public calls alone.
 #![tactic(auto)]
 
 #[cfg(test)]

@@ -1,13 +1,13 @@
-//! Where bids run out: an assignment and a bound, for that reason.
+//! Runs out of bids: the answer is a bracket with that reason.
 
 use crate::texts::{answered, problem_of};
 use auc_direct::DirectLimits;
 use std::test::*;
 
-/// Three persons, of whom the first doesn't know the last object: so it is no full table, and goes by bids.
+/// Three persons, the first without an arc to the last object: so it is no full table, and is solved by bids.
 const THREE: &str = "3\n1 1 4 1 2 1\n2 1 2 2 2 0 2 3 5\n3 1 3 3 2 2 3 3 2\n";
 
-/// With no bid the prices are those that make up for the least cost of each column, 2, 0 and 2; the scale is 4.
+/// With no bid the prices are those of column reduction, 2, 0 and 2; the scale is 4.
 #[test]
 fn few_bids(rt: HostRuntime) -> Result<(), Fail> {
     let problem = problem_of(&rt, THREE, 0)?;
@@ -23,7 +23,7 @@ fn few_bids(rt: HostRuntime) -> Result<(), Fail> {
     Ok(())
 }
 
-/// A full table is searched as one, which takes no bids.
+/// A full table is searched as a table, which takes no bids.
 #[test]
 fn no_bids_for_a_full_table(rt: HostRuntime) -> Result<(), Fail> {
     let problem = problem_of(&rt, "2\n1 1 4 1 2 1\n2 1 2 2 2 0\n", 0)?;
@@ -32,7 +32,7 @@ fn no_bids_for_a_full_table(rt: HostRuntime) -> Result<(), Fail> {
     Ok(())
 }
 
-/// Where there is no assignment, no bid is needed to say so.
+/// Where there is no assignment, no bid is needed to find that.
 #[test]
 fn no_bids_for_a_hall_set(rt: HostRuntime) -> Result<(), Fail> {
     let problem = problem_of(&rt, "2\n1 1 5\n2 1 7\n", 0)?;

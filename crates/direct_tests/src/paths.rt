@@ -1,5 +1,5 @@
-//! Where bids at eps 1 would go on for billions, since many want few objects: paths end that within a few. With objects
-//! to spare there is no other phase, so these tests tell.
+//! Price wars at eps 1 that would take billions of bids, since many persons want few objects: augmenting paths end them
+//! within a few bids. With objects to spare there is no other phase, so these tests show it.
 
 use crate::texts::{AMPLE, answered, problem_of, text_of};
 use auc_cert::read_cert;
@@ -8,19 +8,19 @@ use auc_direct::{DirectLimits, solve_direct_from};
 use auc_graph::{Arc, ArcList};
 use std::test::*;
 
-/// Three persons, of whom each has one of two objects for nothing, and else pays the greatest cost; the last one can't,
-/// so it is no full table, which would be searched without bids.
+/// Three persons, each of whom has one of two objects at cost 0, or pays the greatest cost. The last one doesn't have
+/// that, so it is no full table, which would be searched without bids.
 const THREE: &str = "3\n1 1 0 1 2 0 1 3 1000000000\n2 1 0 2 2 0 2 3 1000000000\n3 1 0 3 2 0\n";
 
 /// A certificate of another problem, at prices of 0.
 const NO_PRICES: &str =
     "auction 1\noptimal 3 0\nassign 1 1 0\nassign 2 2 0\nassign 3 3 0\nprice 1 0\nprice 2 0\nprice 3 0\n";
 
-/// Far fewer bids than the greatest cost is steps of eps.
+/// Far fewer bids than there are steps of eps in the greatest cost.
 const FEW: DirectLimits = DirectLimits { bids: 1_000 };
 
-/// Each person has each object; the first ones for nothing, and the others for a penalty. Where it is to be no full
-/// table, the last person doesn't have the last object.
+/// Each person has each object; the first ones at cost 0, and the others at a penalty. Where it must be no full table,
+/// the last person doesn't have the last object.
 fn crowd(
     rt: &HostRuntime,
     persons: u32,
@@ -45,7 +45,7 @@ fn crowd(
     ArcList::from_arcs(persons, objects, arcs).map_err(|_| Fail::new("no problem"))
 }
 
-/// More objects than persons, and one of them costs the most.
+/// More objects than persons, and one of them has the greatest cost.
 #[test]
 fn a_penalty_with_objects_to_spare(rt: HostRuntime) -> Result<(), Fail> {
     let problem = problem_of(&rt, THREE, 4)?;
@@ -57,7 +57,7 @@ fn a_penalty_with_objects_to_spare(rt: HostRuntime) -> Result<(), Fail> {
     Ok(())
 }
 
-/// Twenty persons, fifteen free objects, and ten that cost the most.
+/// Twenty persons, fifteen free objects, and ten of the greatest cost.
 #[test]
 fn many_penalties_with_objects_to_spare(rt: HostRuntime) -> Result<(), Fail> {
     let problem = crowd(&rt, 20, 25, 15, false)?;

@@ -1,4 +1,4 @@
-//! Starts with more objects than persons. The least costs are those that trying all assignments gives.
+//! Starts with more objects than persons. The least costs are those of a search of all assignments.
 
 use crate::texts::{AMPLE, answered, answered_from, prices_of, problem_of};
 use auc_direct::{DirectLimits, may_start};
@@ -9,7 +9,7 @@ use std::test::*;
 const OLD: &str =
     "4\n1 1 26 1 4 28 1 5 23 1 6 30\n2 2 10 2 3 25 2 5 -7 2 6 16\n3 2 30 3 3 30 3 4 24 3 5 -7 3 6 6\n4 1 20 4 2 28 4 4 9 4 5 -4 4 6 8\n";
 
-/// The same with two costs more, and what is least then.
+/// The same with two costs raised, and its least assignment.
 const NEW: &str =
     "4\n1 1 51 1 4 28 1 5 23 1 6 30\n2 2 10 2 3 25 2 5 18 2 6 16\n3 2 30 3 3 30 3 4 24 3 5 -7 3 6 6\n4 1 20 4 2 28 4 4 9 4 5 -4 4 6 8\n";
 
@@ -19,13 +19,13 @@ const OLD_CLAIM: &[u8] =
 const NEW_CLAIM: &[u8] =
     b"auction 2\noptimal 4 6 39\nassign 1 4 28\nassign 2 2 10\nassign 3 5 -7\nassign 4 6 8\nprice 1 ";
 
-/// The highest price of a start.
+/// The greatest price of a start.
 const MOST: i64 = 1_152_921_504_606_846_976;
 
 /// A price for each of the six objects.
 type Six = (i64, i64, i64, i64, i64, i64);
 
-/// No prices, some, high ones on all objects or on those that nobody takes, and as high as may be.
+/// No prices, some, high ones on all objects or on those that nobody takes, and the greatest.
 const STARTS: [Six; 7] = [
     (0, 0, 0, 0, 0, 0),
     (5, 0, 100, 3, 77, 12),
@@ -36,7 +36,7 @@ const STARTS: [Six; 7] = [
     (0, 0, 0, 0, 0, MOST),
 ];
 
-/// What the solver answers from these prices.
+/// The answer of the solver from these prices.
 fn told_from(
     rt: &HostRuntime,
     problem: &ArcList,
@@ -47,7 +47,7 @@ fn told_from(
     answered_from(rt, problem, limits, &[a, b, c, d, e, f])
 }
 
-/// The least assignment comes out whatever the prices were.
+/// The least assignment is found whatever the prices were.
 #[test]
 fn any_prices(rt: HostRuntime) -> Result<(), Fail> {
     let old = problem_of(&rt, OLD, 6)?;
@@ -74,8 +74,8 @@ fn prices_of_a_solve(rt: HostRuntime) -> Result<(), Fail> {
     Ok(())
 }
 
-/// Where each person's own object is best by more than 1, everybody keeps it and no bid is needed; what nobody keeps
-/// has no price.
+/// Where each person's own object is best by more than 1, each person keeps it and no bid is needed; an object that
+/// nobody keeps has price 0.
 #[test]
 fn all_keep(rt: HostRuntime) -> Result<(), Fail> {
     let old = problem_of(&rt, OLD, 6)?;
@@ -91,7 +91,7 @@ fn all_keep(rt: HostRuntime) -> Result<(), Fail> {
     Ok(())
 }
 
-/// Persons who all know one object alone.
+/// Persons who all have arcs to one object only.
 #[test]
 fn no_assignment(rt: HostRuntime) -> Result<(), Fail> {
     let problem = problem_of(&rt, "2\n1 1 5\n2 1 7\n", 3)?;
@@ -102,7 +102,7 @@ fn no_assignment(rt: HostRuntime) -> Result<(), Fail> {
     Ok(())
 }
 
-/// Where bids run out: an assignment and a bound.
+/// Runs out of bids: an assignment and a bound.
 #[test]
 fn no_bids(rt: HostRuntime) -> Result<(), Fail> {
     let problem = problem_of(&rt, "2\n1 1 1 1 2 9\n2 1 1 2 3 9\n", 3)?;

@@ -9,14 +9,14 @@ use std::test::*;
 /// Three persons, three objects.
 const THREE: &str = "3\n1 1 4 1 2 1 1 3 3\n2 1 2 2 2 0 2 3 5\n3 1 3 3 2 2 3 3 2\n";
 
-/// Certificates whose prices are those of the problem, of another one, and the highest that a start may have.
+/// Certificates whose prices are those of the problem, those of another one, and the greatest that a start may have.
 const OLD: [&str; 3] = [
     "auction 1\noptimal 3 5\nassign 1 2 1\nassign 2 1 2\nassign 3 3 2\nprice 1 10\nprice 2 17\nprice 3 15\n",
     "auction 1\noptimal 3 6\nassign 1 1 4\nassign 2 2 0\nassign 3 3 2\nprice 1 0\nprice 2 7\nprice 3 0\n",
     "auction 1\noptimal 3 6\nassign 1 1 4\nassign 2 2 0\nassign 3 3 2\nprice 1 1152921504606846976\nprice 2 0\nprice 3 1152921504606846976\n",
 ];
 
-/// The least assignment comes out whatever the prices were.
+/// The least assignment is found whatever the prices were.
 #[test]
 fn prices_start_a_solve(rt: HostRuntime) -> Result<(), Fail> {
     let problem = problem_of(&rt, THREE, 0)?;
@@ -34,7 +34,7 @@ fn prices_start_a_solve(rt: HostRuntime) -> Result<(), Fail> {
     Ok(())
 }
 
-/// At prices that show who takes what no bid is left to make.
+/// At prices that show who takes what no bid is needed.
 #[test]
 fn no_bids_from_prices(rt: HostRuntime) -> Result<(), Fail> {
     let problem = problem_of(&rt, THREE, 0)?;
@@ -47,14 +47,14 @@ fn no_bids_from_prices(rt: HostRuntime) -> Result<(), Fail> {
     Ok(())
 }
 
-/// Five persons, five objects; and the same with one cost more.
+/// Five persons, five objects; and the same with one cost raised.
 const FIVE: [&str; 2] = [
     "5\n1 1 13 1 2 24 1 3 20 1 4 6 1 5 1\n2 1 21 2 3 -3 2 4 -9 2 5 17\n3 1 15 3 2 -5 3 3 30 3 4 -1 3 5 -9\n4 1 4 4 3 1 4 4 3 4 5 4\n5 1 3 5 4 14 5 5 0\n",
     "5\n1 1 13 1 2 24 1 3 20 1 4 6 1 5 31\n2 1 21 2 3 -3 2 4 -9 2 5 17\n3 1 15 3 2 -5 3 3 30 3 4 -1 3 5 -9\n4 1 4 4 3 1 4 4 3 4 5 4\n5 1 3 5 4 14 5 5 0\n",
 ];
 
-/// From the prices of a solve, of the same problem, and of the one before. The costs are those that trying all
-/// assignments gives.
+/// From the prices of a solve, of the same problem, and of the one before. The costs are those of a search of all
+/// assignments.
 #[test]
 fn prices_of_a_solve(rt: HostRuntime) -> Result<(), Fail> {
     let old = problem_of(&rt, FIVE[0], 0)?;
@@ -75,8 +75,8 @@ fn prices_of_a_solve(rt: HostRuntime) -> Result<(), Fail> {
     Ok(())
 }
 
-/// Where there is no assignment, a run from start prices says so: an arc is missing; or each person has one, and too
-/// few objects are known, so that a search for a path finds none.
+/// Where there is no assignment, a run from start prices says so. Either a person has no arc. Or each person has one,
+/// but persons have arcs to too few objects, so that a search for a path finds none.
 #[test]
 fn no_assignment_from_prices(rt: HostRuntime) -> Result<(), Fail> {
     let problem = problem_of(&rt, "2\n1 1 1\n", 0)?;

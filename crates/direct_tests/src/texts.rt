@@ -7,10 +7,10 @@ use auc_direct::{DirectLimits, may_start, solve_direct, solve_direct_from};
 use auc_graph::{ArcList, MOST_OBJECTS, ReadLimits, read_arcs};
 use std::test::*;
 
-/// As many bids as any problem of these tests needs.
+/// Enough bids for each problem of these tests.
 pub const AMPLE: DirectLimits = DirectLimits { bids: 1_000_000 };
 
-/// The problem that a text reads as, of so many objects, or as many as persons where that is 0.
+/// The problem that a text reads as, with this number of objects, or as many as persons where that is 0.
 pub fn problem_of(rt: &HostRuntime, text: &str, objects: u32) -> Result<ArcList, Fail> {
     if objects > MOST_OBJECTS {
         return Err(Fail::new("too many objects"));
@@ -36,7 +36,7 @@ pub fn text_of(rt: &HostRuntime, problem: &ArcList, answer: Answer) -> Result<Ve
     Ok(out)
 }
 
-/// What the solver answers.
+/// The answer of the solver.
 pub fn answered(
     rt: &HostRuntime,
     problem: &ArcList,
@@ -46,7 +46,7 @@ pub fn answered(
     text_of(rt, problem, answer)
 }
 
-/// What the solver answers from start prices, which have to be some.
+/// The answer of the solver from start prices, which have to be lawful.
 pub fn answered_from(
     rt: &HostRuntime,
     problem: &ArcList,

@@ -1,4 +1,4 @@
-//! Solves that somebody watches.
+//! Solves with a watch.
 
 ghost use Rattle.std.specs.Prelude.{true};
 
@@ -6,13 +6,13 @@ use crate::texts::{AMPLE, problem_of, text_of};
 use auc_direct::{Progress, Watch, may_start, solve_direct_watched, solve_direct_watched_from};
 use std::test::*;
 
-/// Three persons, of whom the first doesn't know the last object: so it is no full table, and goes by phases.
+/// Three persons, the first without an arc to the last object: so it is no full table, and is solved in phases.
 const THREE: &str = "3\n1 1 4 1 2 1\n2 1 2 2 2 0 2 3 500\n3 1 3 3 2 2 3 3 2\n";
 
-/// Each person's first arc is dear, and his other one cheap; all take the dear ones, or all the cheap ones.
+/// Each person's first arc has a high cost, and the other one a low cost; all take the high ones, or all the low ones.
 const DEAR_FIRST: &str = "3\n1 1 1000 1 2 1\n2 2 1000 2 3 1\n3 1 1 3 3 1000\n";
 
-/// Goes on so many times, and then says no.
+/// Goes on `left` times, and then says no.
 #[derive(Drop)]
 struct Patience {
     left: u32,
@@ -40,7 +40,7 @@ impl Watch for Patience {
     }
 }
 
-/// Who goes on so many times.
+/// A watch that goes on `left` times.
 fn going_on(left: u32) -> Patience {
     Patience {
         left,
@@ -49,8 +49,8 @@ fn going_on(left: u32) -> Patience {
     }
 }
 
-/// A no ends the run before the next phase, with a bracket; who never says no has the answer of all phases, and was
-/// asked in each.
+/// A no ends the run before the next phase, with a bracket. A watch that never says no gets the answer of all phases,
+/// and was asked in each.
 #[test]
 fn stops(rt: HostRuntime) -> Result<(), Fail> {
     let problem = problem_of(&rt, THREE, 0)?;
@@ -69,8 +69,8 @@ fn stops(rt: HostRuntime) -> Result<(), Fail> {
     Ok(())
 }
 
-/// A no after the first phase has what that has come to: the cheap arcs. Nothing is held then, and an assignment that
-/// is completed from nothing has the dear ones, at a thousand times the cost.
+/// A no after the first phase gives its result: the arcs of low cost. Nothing is held then, and an assignment that is
+/// completed from nothing has the arcs of high cost, at a thousand times the cost.
 #[test]
 fn keeps_the_last_assignment(rt: HostRuntime) -> Result<(), Fail> {
     let problem = problem_of(&rt, DEAR_FIRST, 0)?;

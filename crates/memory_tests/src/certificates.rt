@@ -18,7 +18,7 @@ const BRACKET: &str =
 
 const INFEASIBLE: &str = "auction 1\ninfeasible 2 1\nperson 1\nperson 2\nobject 1\n";
 
-/// Whether a text is read as what it spells: at once, or again where memory was refused.
+/// Whether a text is read as the certificate that it spells: at once, or again where memory was refused.
 fn reads(alloc: Global, text: &str) -> Result<bool, Fail> {
     let mark = refuse_one(alloc)?;
     let read = read_cert(alloc, text.as_bytes());
@@ -40,7 +40,7 @@ fn reading(rt: HostRuntime) -> Result<(), Fail> {
     Ok(())
 }
 
-/// A fault of the text is told, where memory was refused when it is read again.
+/// A fault of the text is found, where memory was refused when it is read again.
 #[test]
 fn reading_what_is_no_certificate(rt: HostRuntime) -> Result<(), Fail> {
     let text = b"auction 1\noptimal 2 3\nassign 1 2 2\nassign 3 1 1\n";
@@ -54,7 +54,7 @@ fn reading_what_is_no_certificate(rt: HostRuntime) -> Result<(), Fail> {
     Ok(())
 }
 
-/// What the checker finds of a claim, where memory was refused when it looks again.
+/// The checker's finding about a claim, where memory was refused when it checks again.
 fn finds(alloc: Global, problem: &str, claim: &str) -> Result<Option<CertRefused>, Fail> {
     let problem = problem_of(alloc, problem)?;
     let cert = read_cert(alloc, claim.as_bytes())?;

@@ -2,10 +2,12 @@
 //! all refused.
 //!
 //! A test makes what it needs with ample memory, takes a mark (`marks.rt`), and makes its call. The answer has to be
-//! the one with ample memory: at once, or, where it was want of memory, when the same call is made again; and what the
-//! call was given has to stand as its contract says. Growths are refused from outside, by `cases/growth/run`, which
-//! runs each test again and again: with the first growth after the mark refused, with the second, and so on until none
-//! is met. Under the gate nothing is refused, and the answers are those with ample memory.
+//! the one with ample memory: at once, or, where memory was refused, when the same call is made again. The state of the
+//! call's arguments has to be the one that its contract says.
+//!
+//! Growths are refused from outside, by `cases/growth/run`, which runs each test again and again. It refuses the first
+//! growth after the mark, then the second, and so on until none is met. Under the gate nothing is refused, and the
+//! answers are those with ample memory.
 #![tactic(auto)]
 
 #[cfg(test)]

@@ -13,7 +13,7 @@ use std::test::*;
 
 const FIRST: Letter = Letter::First { object: 0 };
 
-/// Whether each call of one worker is answered as with ample memory, and the mail settles.
+/// Whether each call of one worker gets the answer that it gets with ample memory, and the mail settles.
 fn are_answered<N: MailBrand, R: Wait>(rt: &R, alloc: Global, ledger: Blank) -> Result<bool, Fail>
     requires name { ledger.name ≡ N.name }
     requires parts { (ledger.parts ≡ N.parts) × (N.parts ≡ 1) }
@@ -35,7 +35,7 @@ fn are_answered<N: MailBrand, R: Wait>(rt: &R, alloc: Global, ledger: Blank) -> 
     let looked = mail.look(rt, |state: &MailState<Letter>| state.count()) == 5;
     let noted = seat.lines().len() == 5 && seat.count() == 5;
     seats.push(seat)?;
-    // The law by which letters that are equal are the same, which `settle` asks for.
+    // The law by which equal letters are the same, which `settle` requires.
     equal_letters_are_same();
     let settled = mail.settle(seats);
     let kept = match &settled {

@@ -73,7 +73,7 @@ fn refusal<N: MailBrand>(alloc: Global, ledger: Blank) -> Option<MailError>
     SharedMail::<i64, N>::make(alloc, 2, 3, 5, 9, 0, 7, ledger).err()
 }
 
-/// Where memory is refused the mail stays as it was, and the same calls have their replies with memory.
+/// Where memory is refused the mail is unchanged, and the same calls get their replies with memory.
 #[test]
 fn runs_of_calls(rt: HostRuntime) -> Result<(), Fail> {
     let mut pool = MailPool::make(rt.alloc(), 1, 1, 2, 9, 0i64)?;

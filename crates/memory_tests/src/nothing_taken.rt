@@ -106,7 +106,7 @@ fn mails(rt: HostRuntime) -> Result<(), Fail> {
     Ok(())
 }
 
-/// What is read of a pool.
+/// The read calls of a pool.
 #[test]
 fn looks_at_a_pool(rt: HostRuntime) -> Result<(), Fail> {
     let mut pool = NodePool::make(rt.alloc(), 2, 2, 0i64)?;
@@ -120,7 +120,7 @@ fn looks_at_a_pool(rt: HostRuntime) -> Result<(), Fail> {
     Ok(())
 }
 
-/// What is read of a mail.
+/// The read calls of a mail.
 #[test]
 fn looks_at_a_mail(rt: HostRuntime) -> Result<(), Fail> {
     let mut mail = MailPool::make(rt.alloc(), 1, 2, 2, 9, 0i64)?;
@@ -137,7 +137,7 @@ fn looks_at_a_mail(rt: HostRuntime) -> Result<(), Fail> {
     Ok(())
 }
 
-/// What calls are answered: a post and a take, which fill the trail, and then two takes and a close.
+/// The answers to calls: a post and a take, which fill the trail, and then two takes and a close.
 fn full_answers(alloc: Global, state: &mut MailState<i64>) -> Result<[bool; 5], Fail>
     requires { HasLane state.old.mail 0 0 }
 {
@@ -151,7 +151,7 @@ fn full_answers(alloc: Global, state: &mut MailState<i64>) -> Result<[bool; 5], 
     Ok([posted, taken, first, second, closed])
 }
 
-/// A mail whose trail is full answers so again and again.
+/// A mail whose trail is full gives these answers again and again.
 #[test]
 fn noted_calls(rt: HostRuntime) -> Result<(), Fail> {
     let mut state = MailState::make(rt.alloc(), 1, 1, 2, 9, 0i64, 2)?;
@@ -160,7 +160,7 @@ fn noted_calls(rt: HostRuntime) -> Result<(), Fail> {
     Ok(())
 }
 
-/// What is told of the second of three objects.
+/// The letter with the price of the second of three objects.
 fn told_price() -> Letter {
     Letter::Price {
         object: 1,
@@ -230,7 +230,7 @@ fn turns(rt: HostRuntime) -> Result<(), Fail> {
     Ok(())
 }
 
-/// A certificate is made, and its text goes to a writer that has its room before.
+/// A certificate is made, and its text goes to a writer that has reserved its room.
 #[test]
 fn certificates(rt: HostRuntime) -> Result<(), Fail> {
     let pick = Pick {
@@ -259,7 +259,7 @@ fn certificates(rt: HostRuntime) -> Result<(), Fail> {
     Ok(())
 }
 
-/// Bytes go to a writer that has its room before.
+/// Bytes go to a writer that has reserved its room.
 #[test]
 fn written_bytes(rt: HostRuntime) -> Result<(), Fail> {
     let mut text = Vec::with_capacity(rt.alloc(), 64)?;

@@ -11,10 +11,10 @@ use std::test::*;
 /// Three persons, three objects.
 pub const THREE: &str = "3\n1 1 4 1 2 1 1 3 3\n2 1 2 2 2 0 2 3 5\n3 1 3 3 2 2 3 3 2\n";
 
-/// Two persons who both know the first object alone.
+/// Two persons who both have an arc to the first object only.
 pub const ONE_OBJECT: &str = "2\n1 1 5\n2 1 7\n";
 
-/// One person with so many arcs that candidates are kept of them.
+/// One person with so many arcs that a candidate list is kept.
 pub const LONG: &str =
     "1 1 1 5 1 1 5 1 1 5 1 1 5 1 1 5 1 1 5 1 1 5 1 1 5 1 1 5 1 1 5 1 1 5 1 1 5 1 1 5 1 1 5 1 1 5 1 1 5 1 1 5 1 1 5 1 1 5 1 1 5 1 1 5 1 1 5 1 1 5 1 1 5 1 1 5 1 1 5 1 1 5 1 1 5 1 1 5 1 1 5 1 1 5 1 1 5 1 1 5 1 1 5 1 1 5 1 1 5 1 1 5 1 1 5 1 1 5 1 1 5 1 1 5";
 
@@ -53,7 +53,7 @@ fn reading_in_pieces(rt: HostRuntime) -> Result<(), Fail> {
     Ok(())
 }
 
-/// A fault of the text is told, where memory was refused before it when it is read again.
+/// A fault of the text is found, where memory was refused before it when it is read again.
 #[test]
 fn reading_what_is_no_problem(rt: HostRuntime) -> Result<(), Fail> {
     let text = b"3 1 1 4 1 2 x";
@@ -99,7 +99,7 @@ fn rows(rt: HostRuntime) -> Result<(), Fail> {
     Ok(())
 }
 
-/// What a search finds, where memory was refused when it is made again.
+/// The result of a search, where memory was refused when it is made again.
 fn found_in(alloc: Global, text: &str) -> Result<Matching, Fail> {
     let rows = Rows::build(alloc, &problem_of(alloc, text)?)?;
     let mark = refuse_one(alloc)?;
@@ -122,7 +122,7 @@ fn is_full(found: &Matching, expected: &[u32]) -> bool {
     }
 }
 
-/// Whether these persons were found, who know these objects alone.
+/// Whether these persons were found, who have arcs to these objects only.
 fn is_hall(found: &Matching, expected: &[u32], known: &[u32]) -> bool {
     match found {
         Matching::Hall { persons, objects } => {

@@ -21,7 +21,7 @@ use std::test::*;
 pub const OLD: &str =
     "auction 1\noptimal 3 6\nassign 1 1 4\nassign 2 2 0\nassign 3 3 2\nprice 1 0\nprice 2 7\nprice 3 0\n";
 
-/// The usual limits, with so many shards of each kind and places in each trail.
+/// The usual limits, with these numbers of shards of each kind and of places in each trail.
 pub fn limits_of(shards: u32, audit: u32) -> Result<Limits, Fail>
     ensures range { IfOk result AreThreadLimits }
     ensures shards { IfOk result (λ l. l.shards ≡ shards) }
@@ -114,7 +114,7 @@ fn gathers(alloc: Global, rows: &Rows, limits: &Limits, prices: &[i64]) -> Resul
     Ok(world.end().is_none() && gathered.prices.as_slice() == prices)
 }
 
-/// A world, and what is gathered of it. Where there was no memory to make it, another one is made.
+/// A world, and the holders and prices gathered of it. Where there was no memory to make it, another one is made.
 #[test]
 fn worlds(rt: HostRuntime) -> Result<(), Fail> {
     let rows = Rows::build(rt.alloc(), &problem_of(rt.alloc(), THREE)?)?;

@@ -1,4 +1,4 @@
-//! Phases and solves in threads, and their mails: want of memory, or a thread that can't be started.
+//! Phases and solves in threads, and their mails: refused memory, or a thread that can't be started.
 
 ghost use Rattle.std.specs.Prelude.{◌≡◌};
 ghost use Rattle.auc_threads.specs.Naming.{AreNamed, AreThreadLimits, IsUnopened, numbers, workers_of};
@@ -22,13 +22,13 @@ use std::sync::ledger::Blank;
 use std::test::*;
 use std::thread::Threads;
 
-/// Whether a least-cost assignment is told.
+/// Whether the answer is a least-cost assignment.
 fn is_least(alloc: Global, solved: &Solved) -> Result<bool, Fail> {
     let text = text_of(alloc, &solved.answer)?;
     Ok(text.as_slice().starts_with(b"auction 1\noptimal 3 5\n"))
 }
 
-/// Whether a solve in threads gives a least-cost assignment: at once, or again for want of memory or of a thread.
+/// Whether a solve in threads gives a least-cost assignment: at once, or again where memory or a thread was refused.
 fn solves<R: Threads + Wait + Sync>(rt: &R, alloc: Global, audit: u32) -> Result<bool, Fail> {
     let problem = problem_of(alloc, THREE)?;
     let limits = limits_of(2, audit)?;
@@ -95,7 +95,7 @@ fn a_phase(rt: HostRuntime) -> Result<(), Fail> {
     Ok(())
 }
 
-/// How many workers have a seat at the three mails of a phase of two persons.
+/// The number of workers that have a seat at the three mails of a phase of two persons.
 fn seated<O: MailBrand, P: MailBrand, H: MailBrand>(
     alloc: Global,
     limits: &Limits,

@@ -1,4 +1,4 @@
-//! What a person bids by a `Bidder` alone, with no shard.
+//! The bid of a person by a `Bidder` alone, with no shard.
 
 ghost use Rattle.std.specs.Prelude.{All};
 ghost use Rattle.auc_graph.specs.Price.{IsPrice};
@@ -16,7 +16,7 @@ const TOP: i64 = 2_305_843_009_213_693_952;
 /// Two persons, with two arcs each.
 const TWO_PERSONS: &str = "2 1 1 1 1 2 2 2 1 1 2 2 3";
 
-/// What a person of a problem bids at these prices; None where the text is no such problem.
+/// The bid of a person of a problem at these prices; None where the text is no such problem.
 fn bid_at(
     rt: &HostRuntime,
     text: &str,
@@ -46,7 +46,7 @@ fn bid(person: u32, arc: u32, object: u32, amount: i64) -> Option<Option<Bid>> {
     }))
 }
 
-/// A bid tells the amount as it is, also where that is above the greatest price; a person with no arc makes none.
+/// A bid has its true amount, also where that is above the greatest price; a person with no arc makes none.
 #[test]
 fn a_bid_without_a_shard(rt: HostRuntime) {
     assert_same(

@@ -45,19 +45,19 @@ impl Desk {
         Some(Desk { rows, of, shard })
     }
 
-    /// What is bid next.
+    /// The next bid.
     pub fn asks(&mut self, eps: i64) -> Bidding
         requires { IsEps eps }
     {
         self.shard.next_bid(&self.rows, eps)
     }
 
-    /// What is answered to a letter.
+    /// The answer to a letter.
     pub fn hears(&mut self, letter: Letter) -> Result<(), PersonFault> {
         self.shard.on_letter(letter)
     }
 
-    /// How a person of the shard stands.
+    /// The state of a person of the shard.
     pub fn state(&self, person: u32) -> Option<PersonState> {
         if person < self.rows.persons() && person % self.of == 0 {
             Some(self.shard.state(person))

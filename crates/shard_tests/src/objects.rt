@@ -63,7 +63,7 @@ fn two_bidders(rt: HostRuntime) {
     assert_same(&rt, stall.tell(0), told);
 }
 
-/// A letter is a bid for the shard where its object is there and its amount is from 0 to the greatest price.
+/// A letter is a bid for the shard where its object exists and its amount is from 0 to the greatest price.
 #[test]
 fn bids_in_letters(rt: HostRuntime) {
     let stall = Stall::new(&rt, &[0, 0]).expect(&rt, "memory");

@@ -81,11 +81,11 @@ fn is_stray(desk: &mut Desk, letter: Letter) -> bool {
     desk.hears(letter) == Err(PersonFault::Stray)
 }
 
-/// Letters that fit nobody are refused, and change nothing.
+/// Letters that fit no person are refused, and change nothing.
 #[test]
 fn hostile_letters(rt: HostRuntime) {
     let text = TWO_PERSONS;
-    // The shard has person 0 alone of the two.
+    // The shard has only person 0 of the two.
     let mut desk = Desk::new(&rt, text, 2, &[0, 0], 5).expect(&rt, "memory");
     let award = |person: u32, object: u32, price: i64| Letter::Award {
         person,

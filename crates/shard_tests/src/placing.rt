@@ -15,13 +15,13 @@ fn arcs_of(matching: Matching) -> Result<Vec<u32>, Fail> {
     }
 }
 
-/// A person is placed once, by an arc of his own to an object that nobody holds.
+/// A person is placed once, by one of the person's arcs to an object that nobody holds.
 #[test]
 fn places_where_it_may_be(rt: HostRuntime) -> Result<(), Fail> {
     let rows = rows_of(&rt, "2 1 1 1 1 2 2 2 1 1 2 2 3").ok_or("rows")?;
     assert!(rt; rows.persons() == 2);
     let mut partial = Partial::new(rt.alloc(), &rows)?;
-    // An arc of another person, and no arc at all.
+    // An arc of another person, and an arc that doesn't exist.
     assert!(rt; !partial.place(&rows, 1, 0));
     assert!(rt; !partial.place(&rows, 1, 9));
     assert!(rt; partial.place(&rows, 0, 0));
@@ -34,7 +34,7 @@ fn places_where_it_may_be(rt: HostRuntime) -> Result<(), Fail> {
     Ok(())
 }
 
-/// The second person knows one object alone, so the first one, who was placed there, is moved.
+/// The second person has an arc to one object only, so the first one, who was placed there, is moved.
 #[test]
 fn moves_who_was_placed(rt: HostRuntime) -> Result<(), Fail> {
     let rows = rows_of(&rt, "2\n1 2 5\n1 1 5\n2 1 7\n").ok_or("rows")?;
@@ -46,7 +46,7 @@ fn moves_who_was_placed(rt: HostRuntime) -> Result<(), Fail> {
     Ok(())
 }
 
-/// Two persons know one object, whether one of them was placed there or not.
+/// Two persons have arcs to one object only, whether one of them was placed there or not.
 #[test]
 fn hall_sets(rt: HostRuntime) -> Result<(), Fail> {
     matchings_hold_of_the_problem();

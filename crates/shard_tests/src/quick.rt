@@ -7,7 +7,7 @@ use auc_hall::has_full_matching;
 use std::alloc::AllocError;
 use std::test::*;
 
-/// How many persons the long problems have.
+/// The number of persons of the long problems.
 const PERSONS: u32 = 600;
 
 /// Whether the search finds an assignment of the problem that a text reads as.
@@ -16,8 +16,8 @@ fn finds(rt: &HostRuntime, text: &str) -> Result<bool, Fail> {
     Ok(has_full_matching(rt.alloc(), &rows)?)
 }
 
-/// A problem in which each person but the last knows the object of his number, the next one, and so many before it; the
-/// last one knows the first few alone.
+/// A problem in which each person but the last has arcs to the object of the person's number, to the next one, and to
+/// `before` objects before it. The last person has arcs to the `first` first objects only.
 fn stairs(rt: &HostRuntime, before: u32, first: u32) -> Result<String, AllocError> {
     let mut text = String::new(rt.alloc());
     text.push_str("600\n")?;
@@ -53,8 +53,7 @@ fn displaces_all(rt: HostRuntime) -> Result<(), Fail> {
     Ok(())
 }
 
-/// A person without an arc, two persons who know one object, and three who know two, of whom the first two are given
-/// them.
+/// A person without an arc, two persons who have one object, and three who have two, of whom the first two get them.
 #[test]
 fn finds_none(rt: HostRuntime) -> Result<(), Fail> {
     assert!(rt; !finds(&rt, "1\n")?);

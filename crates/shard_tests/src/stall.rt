@@ -1,4 +1,4 @@
-//! An object shard beside the number of its objects.
+//! A shard of the objects beside the number of its objects.
 
 ghost use Rattle.std.specs.Prelude.{◌≡◌, length, All, IfSome};
 ghost use Rattle.auc_graph.specs.Price.{IsPrice};
@@ -9,7 +9,7 @@ use auc_letters::{Bid, Held, Letter, Out};
 use auc_objects::ObjectShard;
 use std::test::*;
 
-/// The only object shard, for two persons in one shard, at eps 1.
+/// The only shard of the objects, for two persons in one shard, at eps 1.
 #[derive(Drop)]
 pub struct Stall {
     objects: usize,
@@ -32,7 +32,7 @@ impl Stall {
         })
     }
 
-    /// What is answered to a bid; nothing where its object or its amount is out of range.
+    /// The answer to a bid; nothing where its object or its amount is out of range.
     pub fn bid(&mut self, person: u32, arc: u32, object: u32, amount: i64) -> ArrayVec<Out, 4> {
         let letter = Letter::Bid {
             person,
@@ -47,7 +47,7 @@ impl Stall {
             .on_bid(bid.person, bid.arc, bid.object, bid.amount, 1)
     }
 
-    /// The bid that a letter is, if it fits.
+    /// The bid in a letter, if it fits.
     pub fn bid_in(&self, letter: Letter) -> Option<Bid>
         ensures { IfSome result (IsBidIn self.now.shard letter) }
     {

@@ -1,4 +1,4 @@
-//! Two shards of the same persons, one of which bids by what is kept beside it.
+//! Two shards of the same persons, one of which bids by a `Bidder`.
 
 ghost use Rattle.std.specs.Prelude.{IfSome};
 ghost use Rattle.auc_letters.specs.Price.{IsEps};
@@ -10,10 +10,10 @@ use auc_letters::Letter;
 use auc_persons::{Bidder, Bidding, PersonShard};
 use std::test::*;
 
-/// How many shards there are, of which these are the first.
+/// The number of shards, of which these are the first.
 const SHARDS: u32 = 75;
 
-/// Two shards that are asked and told the same.
+/// Two shards that get the same questions and letters.
 #[derive(Drop)]
 pub struct Twins {
     pub whole: PersonShard,
@@ -55,7 +55,7 @@ impl Twins {
         })
     }
 
-    /// What is bid next after a whole pass, where it is the same by the bidder.
+    /// The next bid by a whole pass, where it is the same by the bidder.
     pub fn asks(&mut self, rows: &Rows, eps: i64) -> Option<Bidding>
         requires twins { AreTwins rows.now self.old.whole self.old.listed self.old.bidder }
         requires eps { IsEps eps }
@@ -66,7 +66,7 @@ impl Twins {
         if whole == listed { Some(whole) } else { None }
     }
 
-    /// Tells both a letter; whether they answer the same.
+    /// Gives both a letter; returns whether they answer the same.
     pub fn hears(&mut self, _rows: &Rows, letter: Letter) -> bool
         requires { AreTwins _rows.now self.old.whole self.old.listed self.old.bidder }
         ensures { AreTwins _rows.now self.new.whole self.new.listed self.new.bidder }

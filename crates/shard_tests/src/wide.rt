@@ -1,5 +1,5 @@
-//! Bids by what is kept beside a shard are those of a whole pass, for rows of each length that has a way of its own, in
-//! any order and rising.
+//! Bids by a `Bidder` beside a shard are those of a whole pass. The rows have each length that has a method of its own,
+//! in any order and in rising order.
 
 ghost use Rattle.std.specs.Prelude.{◌<◌};
 ghost use Rattle.auc_letters.specs.Price.{IsEps};
@@ -13,18 +13,22 @@ use auc_persons::Bidding;
 use std::alloc::AllocError;
 use std::test::*;
 
-/// How many arcs the persons of the first shard have.
+/// The numbers of arcs of the persons of the first shard.
 const LENGTHS: [u32; 8] = [1, 2, 3, 64, 65, 256, 257, 600];
-/// The way in which each row rises.
+/// The `way` of making rows in which each row is in rising order.
 const RISING: u32 = 4;
-/// The way in which the costs of each row have two levels, and it rises.
+/// The `way` in which the costs of each row have two levels, and it is in rising order.
 const LEVELS: u32 = 5;
-/// How many arcs each person has then.
+/// The number of arcs of each person then.
 const ARCS_WITH_LEVELS: u32 = 20;
 
-/// What the arc of a person at a place of his row costs, in one of six ways: all arcs cost the same; there are a few
-/// levels; costs are products; they look like drawn, for objects in any order or in rising order; two of five cost 4,
-/// in rising order, and the others 1.
+/// The cost of the arc of a person at a place of the row, in one of six ways:
+///
+/// - All arcs cost the same.
+/// - There are a few levels.
+/// - Costs are products.
+/// - Costs look random, for objects in any order or in rising order (two ways).
+/// - Two of five cost 4, in rising order, and the others 1.
 fn cost_of(way: u32, person: u32, place: u32) -> u32 {
     match way {
         0 => 5,
@@ -39,8 +43,8 @@ fn cost_of(way: u32, person: u32, place: u32) -> u32 {
     }
 }
 
-/// To which object the arc at a place leads: places and objects are in different orders, but in the last two ways. With
-/// a few levels two arcs each lead to one.
+/// The object of the arc at a place: places and objects are in different orders, but in the last two ways. With a few
+/// levels two arcs each lead to one object.
 fn object_of(way: u32, place: u32) -> u32
     ensures { result < 600 }
 {
@@ -51,7 +55,8 @@ fn object_of(way: u32, place: u32) -> u32
     place.wrapping_mul(367) % 600
 }
 
-/// How many arcs a person has: those of the first shard differ, all others have one; with two levels all have as many.
+/// The number of arcs of a person: those of the first shard differ, all others have one; with two levels all have as
+/// many.
 fn arcs_of(way: u32, person: u32) -> u32
     requires { person < 600 }
 {
@@ -161,7 +166,7 @@ fn same_bids_where_rows_rise(rt: HostRuntime) {
     assert!(rt; are_alike(&rt, RISING), "rising");
 }
 
-/// At first the cheap arcs tell each bid. Their prices rise until dear ones are bid on, too.
+/// At first the cheap arcs decide each bid. Their prices rise until arcs of high cost are bid on, too.
 #[test]
 fn same_bids_at_two_levels(rt: HostRuntime) {
     assert!(rt; are_alike(&rt, LEVELS), "two levels");

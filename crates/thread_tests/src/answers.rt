@@ -1,4 +1,4 @@
-//! What the solver in threads answers, up to the bytes of its certificate, and what a phase leaves.
+//! The answers of the solver in threads, up to the bytes of its certificate, and the results of a phase.
 
 use crate::problems::{ONE, ONE_OBJECT, THREE, TWO, limits_of, problem_of, run, run_from};
 use auc_graph::Rows;
@@ -40,7 +40,7 @@ fn two_persons_with_any_shards(rt: HostRuntime) -> Result<(), Fail> {
     Ok(())
 }
 
-// The prices hang on the schedule, but the assignment is the only one that costs least; and there are two phases.
+// The prices depend on the schedule, but there is only one least-cost assignment; and there are two phases.
 #[test]
 fn three_persons_with_any_shards(rt: HostRuntime) -> Result<(), Fail> {
     for shards in SHARDS {

@@ -123,8 +123,8 @@ fn shards_of_the_objects_come_late(rt: HostRuntime) -> Result<(), Fail> {
     solves_behind(&rt, rt.alloc(), &HoldingGate::new(2, 2, 3), 0)
 }
 
-// The worker of the one object takes a bid, says what comes of it at the persons' mail and at the hub's, and then hears
-// that the phase is over.
+// The worker of the one object takes a bid, posts the letters of it at the persons' mail and at the hub's, and then
+// hears that the phase is over.
 #[test]
 fn the_gate_is_passed_before_each_lock(rt: HostRuntime) -> Result<(), Fail> {
     for audit in [0, 1000] {

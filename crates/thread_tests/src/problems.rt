@@ -1,4 +1,4 @@
-//! Problems, limits, and what the solver in threads answers.
+//! Problems, limits, and the answers of the solver in threads.
 
 ghost use Rattle.std.specs.Prelude.{◌≡◌, IfOk};
 ghost use Rattle.auc_threads.specs.Naming.{AreThreadLimits};
@@ -19,13 +19,13 @@ use std::thread::Threads;
 /// One person, one object.
 pub const ONE: &str = "1\n1 1 -7\n";
 
-/// Two persons, two objects; both like the first one better.
+/// Two persons, two objects; both prefer the first one.
 pub const TWO: &str = "2\n1 1 1\n1 2 2\n2 1 1\n2 2 3\n";
 
 /// Three persons, three objects.
 pub const THREE: &str = "3\n1 1 4 1 2 1 1 3 3\n2 1 2 2 2 0 2 3 5\n3 1 3 3 2 2 3 3 2\n";
 
-/// Two persons who both know the first object alone.
+/// Two persons who both have an arc to the first object only.
 pub const ONE_OBJECT: &str = "2\n1 1 5\n2 1 7\n";
 
 /// The problem that a text reads as.
@@ -33,7 +33,7 @@ pub fn problem_of(alloc: Global, text: &str) -> Result<ArcList, Fail> {
     Ok(read_arcs(alloc, text.as_bytes(), ReadLimits::usual())?)
 }
 
-/// The usual limits, with so many shards of each kind and places in each trail.
+/// The usual limits, with these numbers of shards of each kind and of places in each trail.
 pub fn limits_of(shards: u32, audit: u32) -> Result<Limits, Fail>
     ensures range { IfOk result AreThreadLimits }
     ensures shards { IfOk result (λ l. l.shards ≡ shards) }
@@ -48,7 +48,7 @@ pub fn limits_of(shards: u32, audit: u32) -> Result<Limits, Fail>
     Ok(limits)
 }
 
-/// What a run comes to: the text of its certificate, in which the checker has found no fault, and its phases.
+/// The result of a run: the text of its certificate, in which the checker has found no fault, and its phases.
 #[derive(Drop)]
 pub struct Outcome {
     pub text: Vec<u8>,
@@ -86,7 +86,7 @@ pub fn run_from<R: Threads + Wait + Sync, G: Gate + Sync>(
     outcome_of(alloc, &problem, solved)
 }
 
-/// What a run has come to, once the checker has found no fault in its certificate.
+/// The result of a run, once the checker has found no fault in its certificate.
 fn outcome_of(alloc: Global, problem: &ArcList, solved: Solved) -> Result<Outcome, Fail> {
     let Solved { answer, phases } = solved;
     let cert = match answer {

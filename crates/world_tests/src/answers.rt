@@ -1,4 +1,4 @@
-//! What the serial solver answers, up to the bytes of its certificate.
+//! The answers of the serial solver, up to the bytes of its certificate.
 
 use crate::problems::{NO_OBJECT, ONE, ONE_OBJECT, THREE, TWO, in_range, problem_of};
 use crate::same::assert_same;
@@ -16,7 +16,7 @@ struct Example {
     prices: &'static str,
 }
 
-/// Problems whose certificate doesn't hang on the number of shards: of each there is one only, or one run only.
+/// Problems whose certificate doesn't depend on the number of shards: of each there is one only, or one run only.
 const ALIKE: [Example; 5] = [
     Example {
         problem: ONE,

@@ -43,8 +43,8 @@ fn boxes_close_once(rt: HostRuntime) -> Result<(), Fail> {
     Ok(())
 }
 
-/// A bid, and the Stop of a shard that may make no more; it makes one alone. Then an award and a First into closed
-/// boxes: nobody gets them, and the person holds the object all the same.
+/// A bid, and the Stop of a shard that may make no more bids; it makes only one Stop. Then an award and a First into
+/// closed boxes: nobody gets them, and the person holds the object all the same.
 const SWALLOWED: [Step; 17] = [
     BID,
     PERSON_POST,
@@ -74,7 +74,7 @@ fn closed_boxes_swallow_awards(rt: HostRuntime) -> Result<(), Fail> {
     Ok(())
 }
 
-/// The first two persons both bid for the second object, with one bid for each shard: the first shard stops while its
+/// The first two persons both bid for the second object, with one bid for each shard. The first shard stops while its
 /// bid waits, and the bid of the second one finds its box closed. A closed box keeps the bid that waits there, and
 /// takes no other; the shards go on after the end.
 const KEPT: [Step; 18] = [

@@ -1,4 +1,4 @@
-//! What holders and prices come to that no phase leaves so, made by hand.
+//! The answers to holders and prices that no phase leaves, made by hand.
 
 use crate::problems::{TWO, problem_of};
 use crate::same::assert_same;
@@ -9,19 +9,19 @@ use auc_world::finish::{bracket, optimal, stop_of};
 use auc_world::{Answer, Gathered, Guard};
 use std::test::*;
 
-/// The first person holds by his arc to the first object.
+/// The first person holds by the person's arc to the first object.
 const FIRST: Held = Held { person: 0, arc: 0 };
 
-/// He holds by his arc to the second object.
+/// The same person holds by the arc to the second object.
 const FIRST_BY_SECOND: Held = Held { person: 0, arc: 1 };
 
-/// The second person holds by an arc that is the first one's.
+/// The second person holds by an arc of the first one.
 const BY_ANOTHERS: Held = Held { person: 1, arc: 0 };
 
-/// He holds by an arc that there isn't.
+/// The second person holds by an arc that doesn't exist.
 const BY_NONE: Held = Held { person: 1, arc: 4 };
 
-/// What a full phase of two persons is answered that leaves these holders.
+/// The answer to a full phase of two persons that leaves these holders.
 fn sold(rt: &HostRuntime, first: Option<Held>, second: Option<Held>) -> Result<Answer, Fail> {
     let problem = problem_of(rt, TWO)?;
     let gathered = Gathered {
@@ -31,7 +31,7 @@ fn sold(rt: &HostRuntime, first: Option<Held>, second: Option<Held>) -> Result<A
     Ok(optimal(rt.alloc(), &problem, gathered)?)
 }
 
-/// What a phase of two persons is answered that a limit has stopped with these holders.
+/// The answer to a phase of two persons that a limit has stopped with these holders.
 fn stopped(rt: &HostRuntime, first: Option<Held>, second: Option<Held>) -> Result<Answer, Fail> {
     let problem = problem_of(rt, TWO)?;
     if problem.objects() != 2 {
@@ -45,7 +45,7 @@ fn stopped(rt: &HostRuntime, first: Option<Held>, second: Option<Held>) -> Resul
     Ok(bracket(rt.alloc(), &problem, &rows, Reason::Bids, gathered)?)
 }
 
-/// Nobody is given a pick that he doesn't hold.
+/// Nobody gets a pick of an object that the person doesn't hold.
 #[test]
 fn holders_without_a_claim(rt: HostRuntime) -> Result<(), Fail> {
     for (first, second) in [
@@ -95,7 +95,7 @@ fn holders_without_a_place(rt: HostRuntime) -> Result<(), Fail> {
     Ok(())
 }
 
-/// Limits are told from guards.
+/// Limits are distinguished from guards.
 #[test]
 fn stops_by_reason(rt: HostRuntime) {
     assert_same(&rt, stop_of(Why::Ceiling), Ok(Reason::Ceiling));

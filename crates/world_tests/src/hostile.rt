@@ -11,7 +11,7 @@ use auc_model::{MailName, Turn};
 use auc_world::Limits;
 use std::test::*;
 
-/// Each turn of a shard or a box of this number, as far as there are two shards of each kind, two objects and one hub.
+/// Each turn of a shard or a box of this number, where there are two shards of each kind, two objects and one hub.
 fn steps_at(beyond: u32) -> [Step; 13] {
     [
         Step::Take(Turn::Bid { shard: beyond }),
@@ -31,7 +31,7 @@ fn steps_at(beyond: u32) -> [Step; 13] {
 }
 
 /// Turns out of range at the start, in the middle of each of six rounds, where letters wait everywhere, and after the
-/// end: 29 each time, with objects of another shard, and how the world stands before and after them.
+/// end. There are 29 each time, with objects of another shard. The state of the world is taken before and after them.
 fn out_of_range_steps(rt: &HostRuntime) -> Result<Vec<Step>, Fail> {
     let mut steps = Vec::new(rt.alloc());
     for _ in 0..6 {
@@ -45,7 +45,7 @@ fn out_of_range_steps(rt: &HostRuntime) -> Result<Vec<Step>, Fail> {
     Ok(steps)
 }
 
-/// Whether how the world stands is told before and after each run of these marks, and is the same.
+/// Whether the state of the world is written before and after each run of these marks, and is the same.
 fn stands_as_before(told: &str, marks: &str) -> bool {
     let mut before = None;
     for part in told.split(marks) {
@@ -64,8 +64,7 @@ fn stands_as_before(told: &str, marks: &str) -> bool {
 fn out_of_range(rt: HostRuntime) -> Result<(), Fail> {
     let steps = out_of_range_steps(&rt)?;
     let told = told(&rt, TWO, Limits::usual(2), steps.as_slice())?;
-    // None of them moved anything, nor changed how the world stands; the two turns after a round are answered as they
-    // may.
+    // None of them moved anything, nor changed the state of the world; the two turns after a round may get any reply.
     let none = ".............................";
     assert_same(&rt, told.as_str().matches(none).count(), 6);
     assert!(rt; stands_as_before(told.as_str(), none), "{told}");
@@ -73,7 +72,7 @@ fn out_of_range(rt: HostRuntime) -> Result<(), Fail> {
     Ok(())
 }
 
-/// A world that stands otherwise after the marks than before is found out.
+/// A world whose state after the marks differs from that before is found.
 #[test]
 fn changes_are_seen(rt: HostRuntime) {
     assert!(rt; stands_as_before("[-:0 None]..[-:0 None]m[1:4 None]..[1:4 None]", ".."));
@@ -96,8 +95,8 @@ fn nothing_waits(rt: HostRuntime) -> Result<(), Fail> {
     Ok(())
 }
 
-/// Tells a price, again and again. The persons' mail has room for eight letters, and keeps four of it from prices: so
-/// four wait, and the others are dropped. One tell waits in the outbox until it is posted.
+/// Sends a price, again and again (`tell`). The persons' mail has room for eight letters, and keeps four of it from
+/// prices: so four wait, and the others are dropped. One price waits in the outbox until it is posted.
 #[test]
 fn tells_beyond_the_room(rt: HostRuntime) -> Result<(), Fail> {
     let mut steps = Vec::new(rt.alloc());

@@ -10,7 +10,7 @@ use auc_graph::MOST_PRICE;
 use auc_world::{Answer, Limits, solve_serial};
 use std::test::*;
 
-/// The usual limits of one shard of each kind, but so many bids.
+/// The usual limits of one shard of each kind, but this number of bids.
 pub fn bids(bids: u64) -> Limits {
     Limits {
         bids,
@@ -18,7 +18,7 @@ pub fn bids(bids: u64) -> Limits {
     }
 }
 
-/// The usual limits of one shard of each kind, but so many posts of each lane.
+/// The usual limits of one shard of each kind, but this number of posts of each lane.
 pub fn posts(posts: u64) -> Limits {
     Limits {
         posts,
@@ -26,7 +26,7 @@ pub fn posts(posts: u64) -> Limits {
     }
 }
 
-/// The usual limits of one shard of each kind, but so many letters that may wait in each mail.
+/// The usual limits of one shard of each kind, but this number of letters that may wait in each mail.
 fn nodes(nodes: u32) -> Limits {
     Limits {
         nodes,
@@ -34,12 +34,12 @@ fn nodes(nodes: u32) -> Limits {
     }
 }
 
-/// Limits with which two persons who like one object can't be served.
+/// Limits with which two persons who prefer one object can't both get one.
 fn too_low() -> [Limits; 5] {
     [bids(0), bids(1), posts(0), posts(1), nodes(1)]
 }
 
-/// What no limit leaves sold is completed, and the prices bound the cost of all assignments.
+/// What no limit leaves sold is completed, and the prices give a lower bound of the cost of all assignments.
 #[test]
 fn low_limits_leave_brackets(rt: HostRuntime) -> Result<(), Fail> {
     let first = "assign 1 1 1\nassign 2 2 3\n";
@@ -60,7 +60,7 @@ fn low_limits_leave_brackets(rt: HostRuntime) -> Result<(), Fail> {
     Ok(())
 }
 
-/// Whom to blame is found without a bid.
+/// A Hall violator is found without a bid.
 #[test]
 fn low_limits_leave_hall_sets(rt: HostRuntime) -> Result<(), Fail> {
     for text in [ONE_OBJECT, NO_OBJECT] {

@@ -66,7 +66,7 @@ pub const CLOSE_HUB: Step = Step::Take(Turn::HubClose {
     at: 0,
 });
 
-/// The first shard of the objects tells the price of the first object to the first shard of the persons.
+/// The first shard of the objects sends the price of the first object to the first shard of the persons.
 pub const TELL: Step = Step::Take(Turn::Tell {
     shard: 0,
     object: 0,
@@ -78,7 +78,7 @@ pub fn closes(mail: MailName, at: u32) -> Step {
     Step::Take(Turn::HubClose { mail, at })
 }
 
-/// A shard of the objects tells a price to a shard of the persons.
+/// A shard of the objects sends a price to a shard of the persons.
 pub fn tells(shard: u32, object: u32, to: u32) -> Step {
     Step::Take(Turn::Tell { shard, object, to })
 }

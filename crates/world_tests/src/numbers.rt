@@ -9,7 +9,7 @@ pub struct Numbers {
 }
 
 impl Numbers {
-    /// The numbers that go with a seed.
+    /// The numbers of a seed.
     pub fn new(seed: u64) -> Numbers {
         Numbers { state: seed }
     }

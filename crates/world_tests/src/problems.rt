@@ -1,4 +1,4 @@
-//! Problems, and what is made of them.
+//! Problems, and what is built from them.
 
 ghost use Rattle.std.specs.Prelude.{◌≡◌, All, IfOk};
 ghost use Rattle.auc_graph.specs.Price.{IsPrice};
@@ -13,13 +13,13 @@ use std::test::*;
 /// One person, one object.
 pub const ONE: &str = "1\n1 1 -7\n";
 
-/// Two persons, two objects; both like the first one better.
+/// Two persons, two objects; both prefer the first one.
 pub const TWO: &str = "2\n1 1 1\n1 2 2\n2 1 1\n2 2 3\n";
 
 /// Three persons, three objects.
 pub const THREE: &str = "3\n1 1 4 1 2 1 1 3 3\n2 1 2 2 2 0 2 3 5\n3 1 3 3 2 2 3 3 2\n";
 
-/// Two persons who both know the first object alone.
+/// Two persons who both have an arc to the first object only.
 pub const ONE_OBJECT: &str = "2\n1 1 5\n2 1 7\n";
 
 /// The second person has no arc.

@@ -14,13 +14,13 @@ use auc_world::finish::optimal;
 use auc_world::{Answer, Limits, World, solve_serial};
 use std::test::*;
 
-/// How many turns a schedule takes before the whole rounds.
+/// The number of turns of a schedule before the whole rounds.
 const TURNS: u32 = 600;
 
-/// The holders and the prices are looked at each time that so many turns were taken.
+/// The holders and the prices are checked each time after this number of turns.
 const LOOK: u32 = 20;
 
-/// How many kinds of turns there are.
+/// The number of kinds of turns.
 const KINDS: u32 = 8;
 
 /// A problem, and the least cost of its assignments.
@@ -40,17 +40,17 @@ fn problems() -> [Example; 5] {
             problem: THREE,
             cost: 5,
         },
-        // One person knows a single object, by two arcs.
+        // One person has a single object, by two arcs.
         Example {
             problem: "2\n1 1 4 1 1 2\n2 1 0 2 2 5\n",
             cost: 7,
         },
-        // Costs below 0, an arc twice, and two assignments that cost least.
+        // Costs below 0, an arc twice, and two least-cost assignments.
         Example {
             problem: "3\n1 1 -5 1 1 -6 1 2 4\n2 1 -6 2 2 3 2 3 0\n3 3 -2 3 1 -9\n",
             cost: -5,
         },
-        // Three persons fight for two objects, and the loser has a long way.
+        // Three persons fight for two objects, and another object costs the loser much more.
         Example {
             problem: "4\n1 1 0 1 2 1 1 3 20\n2 1 1 2 2 0 2 4 25\n3 1 0 3 3 15 3 4 14\n4 2 0 4 4 30 4 1 2\n",
             cost: 35,
@@ -58,8 +58,8 @@ fn problems() -> [Example; 5] {
     ]
 }
 
-/// The next turn: in one of four cases or so its shard or its object is none. Never one of the starved kind, if there
-/// is such a kind.
+/// The next turn: in about one of four cases its shard or its object doesn't exist. Never one of the starved kind, if
+/// there is such a kind.
 fn next_turn(numbers: &mut Numbers, shards: u32, starved: u32) -> Turn
     requires { shards ≤ 16 }
 {
@@ -97,7 +97,7 @@ fn mail_of(number: u32) -> MailName {
     }
 }
 
-/// Whether somebody holds two objects.
+/// Whether a person holds two objects.
 fn holds_two(holders: &[Option<Held>]) -> bool {
     for holder in holders.iter().flatten() {
         let same = holders
@@ -116,7 +116,7 @@ fn has_fallen(before: &[i64], after: &[i64]) -> bool {
     before.iter().zip(after.iter()).any(|(old, new)| new < old)
 }
 
-/// What a least assignment costs, if this is the certificate of one.
+/// The cost of a least assignment, if this is the certificate of one.
 fn least_cost(answer: &Answer) -> Option<i64> {
     let Answer::Optimal(cert) = answer else {
         return None;
@@ -132,7 +132,7 @@ fn is_well(world: &World) -> bool {
     matches!(world.end(), None | Some(End::All))
 }
 
-/// Takes some turns, and tells whether all was well after each.
+/// Takes some turns; returns whether all was well after each.
 fn takes_well(world: &mut World, shards: u32, starved: u32, numbers: &mut Numbers) -> bool
     requires { shards ≤ 16 }
 {
@@ -145,7 +145,7 @@ fn takes_well(world: &mut World, shards: u32, starved: u32, numbers: &mut Number
     true
 }
 
-/// Takes a mixed schedule of turns, and tells whether all was well: no price has fallen, and nobody held two objects.
+/// Takes a mixed schedule of turns; returns whether all was well: no price has fallen, and nobody held two objects.
 fn plays_well(
     rt: &HostRuntime,
     world: &mut World,
@@ -168,8 +168,8 @@ fn plays_well(
     Ok(true)
 }
 
-/// Takes a mixed schedule from the start of a phase, and whole rounds from there. What the holders cost then, if all
-/// was well and the checker finds that nothing costs less.
+/// Takes a mixed schedule from the start of a phase, and whole rounds from there. Returns the cost of the holders then,
+/// if all was well and the checker finds that nothing costs less.
 fn cost_after(
     rt: &HostRuntime,
     problem: &ArcList,

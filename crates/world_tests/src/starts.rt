@@ -10,13 +10,13 @@ use auc_graph::{ReadLimits, read_arcs};
 use auc_world::{Limits, solve_serial_from};
 use std::test::*;
 
-/// What `ONE` is answered, but for the price.
+/// The answer to `ONE`, but for the price.
 const OF_ONE: &str = "auction 1\noptimal 1 -7\nassign 1 1 -7\nprice 1 ";
 
-/// What `TWO` is answered.
+/// The answer to `TWO`.
 const OF_TWO: &str = "auction 1\noptimal 2 3\nassign 1 2 2\nassign 2 1 1\nprice 1 7\nprice 2 5\n";
 
-/// What `TWO` is answered with one bid.
+/// The answer to `TWO` with one bid.
 const OF_TWO_BY_ONE: &str =
     "auction 1\nbracket bids 2 3 4\nassign 1 1 1\nassign 2 2 3\nprice 1 4\nprice 2 0\n";
 
@@ -71,7 +71,7 @@ fn prices_start_a_solve(rt: HostRuntime) -> Result<(), Fail> {
     Ok(())
 }
 
-/// Bids are counted from the start on, and who knows too few objects is found before any.
+/// Bids are counted from the start on, and a Hall violator is found before any.
 #[test]
 fn limits_hold_from_a_start(rt: HostRuntime) -> Result<(), Fail> {
     let out = answered_from(&rt, TWO, OF_TWO, bids(1))?;

@@ -1,6 +1,6 @@
-//! What is told of a world, as one line: how it answers the steps that it takes, and how it stands.
+//! A report of a world, as one line: its replies to the steps that it takes, and its state.
 //!
-//! Only the functions of this file have a world in hand: a test that has one is slow to prove.
+//! Only the functions of this file have a world at hand: a test that has one is slow to prove.
 
 ghost use Rattle.std.specs.Prelude.{All};
 ghost use Rattle.auc_graph.specs.Price.{IsPrice};
@@ -12,16 +12,16 @@ use auc_model::{Turn, TurnReply};
 use auc_world::{Limits, World};
 use std::test::*;
 
-/// What a world does, or what is looked at.
+/// A step of a world, or a look at its state.
 #[derive(Clone, Copy)]
 pub enum Step {
-    /// It takes a turn: `m` is told where that moved anything, and `.` where it didn't.
+    /// It takes a turn: reported as `m` where that moved anything, and as `.` where it didn't.
     Take(Turn),
-    /// It takes a whole round of turns. Nothing is told.
+    /// It takes a whole round of turns. Nothing is reported.
     Round,
-    /// It takes whole rounds until the phase has ended. Nothing is told.
+    /// It takes whole rounds until the phase has ended. Nothing is reported.
     Rounds,
-    /// How it stands is told: for each object its holder, from 1, and its price, and then the end.
+    /// Its state is reported: for each object its holder, from 1, and its price, and then the end.
     Look,
 }
 
@@ -43,7 +43,7 @@ fn sale_text(rt: &HostRuntime, holder: &Option<Held>, price: i64) -> Result<Stri
     }
 }
 
-/// How a world stands.
+/// The state of a world.
 fn stand(rt: &HostRuntime, world: &World) -> Result<String, Fail> {
     let gathered = world.gather(rt.alloc())?;
     let mut text = String::new(rt.alloc());
@@ -55,7 +55,7 @@ fn stand(rt: &HostRuntime, world: &World) -> Result<String, Fail> {
     Ok(format!(in rt.alloc(); "[{text}{end:?}]")?)
 }
 
-/// Takes a step, and tells of it.
+/// Takes a step, and reports it.
 fn take(
     rt: &HostRuntime,
     world: &mut World,
@@ -77,7 +77,7 @@ fn take(
     Ok(())
 }
 
-/// What is told of a world that begins with these prices and takes these steps.
+/// The report of a world that begins with these prices and takes these steps.
 pub fn told_at(
     rt: &HostRuntime,
     text: &str,

@@ -1,4 +1,4 @@
-//! Schedules that are worked by hand, from the start of a phase, with the answer of each turn.
+//! Schedules that are worked by hand, from the start of a phase, with the reply to each turn.
 
 use crate::moves::{
     BID, CLOSE_OBJECTS, HUB_TAKE, OBJECT_POST, OBJECT_TAKE, OTHER_BID, OTHER_OBJECT_POST,
@@ -11,7 +11,7 @@ use crate::telling::{Step, told};
 use auc_world::Limits;
 use std::test::*;
 
-/// The first person bids 4 for the first object, and holds it before he has heard so.
+/// The first person bids 4 for the first object, and holds it before the letter of that comes.
 #[test]
 fn first_bid(rt: HostRuntime) -> Result<(), Fail> {
     let steps = [BID, PERSON_POST, OBJECT_TAKE, OBJECT_POST, Look];
@@ -21,8 +21,8 @@ fn first_bid(rt: HostRuntime) -> Result<(), Fail> {
 }
 
 /// Both persons bid for the first object, 4 and 7, before either has heard anything. The second one gets it, and the
-/// award waits in the outbox; the first one hears of his award, of the price 4 and that he is outbid, and bids 5 for
-/// the second object.
+/// award waits in the outbox. The first one gets the letters of an award, of the price 4 and of being outbid, and bids
+/// 5 for the second object.
 const OUTBID_BEFORE_HE_HEARS: [Step; 30] = [
     BID,
     PERSON_POST,
@@ -65,7 +65,7 @@ fn outbid_before_he_hears(rt: HostRuntime) -> Result<(), Fail> {
 }
 
 /// The same persons and objects, each in a shard of its own. The second person bids for the first object and gets it;
-/// the first one, who knows the old price, is refused.
+/// the first one, whose shard has the old price, is refused.
 const FIRST_OBJECT: [Step; 11] = [
     OTHER_BID,
     OTHER_PERSON_POST,
@@ -92,7 +92,7 @@ const STILL: [Step; 8] = [
     Look,
 ];
 
-/// He bids for the second object and gets it, and the hub counts both. The last award is heard after the end.
+/// That person bids for the second object and gets it, and the hub counts both. The last award is heard after the end.
 const SECOND_OBJECT: [Step; 11] = [
     BID,
     PERSON_POST,

@@ -1,4 +1,4 @@
-//! More objects than persons: what the serial solver answers, whatever the number of shards.
+//! More objects than persons: the answers of the serial solver, whatever the number of shards.
 
 ghost use Rattle.std.specs.Prelude.{◌≤◌};
 
@@ -8,7 +8,7 @@ use auc_graph::{ReadLimits, Rows, read_arcs};
 use auc_world::{Limits, first_eps};
 use std::test::*;
 
-/// Whether this is answered about the problem with so many objects.
+/// Whether this is the answer about the problem with this number of objects.
 fn answers(
     rt: &HostRuntime,
     text: &str,
@@ -29,7 +29,7 @@ fn answers(
     Ok(first_eps(&rows) == 1 && out.as_slice() == expected.as_bytes())
 }
 
-/// What nobody takes has no price.
+/// An object that nobody takes has price 0.
 #[test]
 fn optimal(rt: HostRuntime) -> Result<(), Fail> {
     let one = "auction 2\noptimal 1 2 3\nassign 1 2 3\nprice 1 0\nprice 2 5\n";
@@ -54,7 +54,7 @@ fn brackets(rt: HostRuntime) -> Result<(), Fail> {
     Ok(())
 }
 
-/// A Hall set whose objects version 1 names has a text of version 1.
+/// A Hall set whose objects version 1 can name has a text of version 1.
 #[test]
 fn infeasible(rt: HostRuntime) -> Result<(), Fail> {
     let near = "auction 1\ninfeasible 2 1\nperson 1\nperson 2\nobject 3\n";

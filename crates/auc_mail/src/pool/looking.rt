@@ -1,4 +1,4 @@
-//! What a mail tells without being changed.
+//! The calls that report on a mail and don't change it.
 
 ghost use Rattle.std.specs.Prelude.{◌≡◌, ◌<◌, ◌↔◌, IsTrue};
 ghost use Rattle.auc_mail.specs.Mail.{HasBox, HasLane, IsClosed, free_of, lane_of, posted_of, waiting_at};
@@ -9,7 +9,7 @@ use crate::call::Call;
 use crate::pool::MailPool;
 
 impl<T: Copy> MailPool<T> {
-    /// Whether the call's box and sender are there. Takes O(1) time.
+    /// Whether the call's box and sender exist. Takes O(1) time.
     pub fn fits(&self, call: &Call<T>) -> bool
         ensures { IsTrue result ↔ Fits self.now call.now }
     {
@@ -30,7 +30,7 @@ impl<T: Copy> MailPool<T> {
         !self.boxes[at as usize].accepting
     }
 
-    /// How many more letters may wait, in all boxes together. Takes O(1) time.
+    /// The number of letters that may still be added, in all boxes together. Takes O(1) time.
     #[inline]
     pub fn free(&self) -> u32
         ensures { result ≡ free_of self.now }
@@ -38,7 +38,7 @@ impl<T: Copy> MailPool<T> {
         self.lists.free()
     }
 
-    /// How many letters of the sender were posted to the box, those taken since among them. Takes O(1) time.
+    /// The number of letters of the sender that were posted to the box, those taken since among them. Takes O(1) time.
     #[inline]
     pub fn posted(&self, at: u32, sender: u32) -> u64
         requires { HasLane self.now at sender }
@@ -47,7 +47,7 @@ impl<T: Copy> MailPool<T> {
         self.posted[lane_number(self.senders, at, sender) as usize]
     }
 
-    /// How many letters of the sender were taken out of the box. Takes O(1) time.
+    /// The number of letters of the sender that were taken out of the box. Takes O(1) time.
     pub fn taken(&self, at: u32, sender: u32) -> u64
         requires { HasLane self.now at sender }
         ensures { result ≡ (lane_of self.now at sender).taken }
@@ -56,7 +56,7 @@ impl<T: Copy> MailPool<T> {
         self.posted[lane as usize] - u64::from(self.lists.len(lane))
     }
 
-    /// How many letters wait in the box, of all senders. Takes O(1) time.
+    /// The number of letters that wait in the box, of all senders. Takes O(1) time.
     pub fn waiting(&self, at: u32) -> u32
         requires { HasBox self.now at }
         ensures { result ≡ waiting_at self.now at }

@@ -1,4 +1,4 @@
-//! Letters that are posted.
+//! Posting.
 
 ghost use Rattle.auc_mail.specs.Step.{Fits, Step, reply_to_post};
 
@@ -7,7 +7,7 @@ use crate::call::{Call, PostRefused, Reply};
 use crate::pool::MailPool;
 
 impl<T: Copy> MailPool<T> {
-    /// Posts `item` from `sender` to the box `to`, and answers the letter's number in its lane, from 1.
+    /// Posts `item` from `sender` to the box `to`, and returns the letter's number in its lane, from 1.
     ///
     /// Refused, in this order: `Closed` where the box is closed; `Spent` where the lane had all its posts; `Full` where
     /// no more than `reserve` letters are free. A refused post changes nothing. Takes O(1) time.

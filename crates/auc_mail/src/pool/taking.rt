@@ -1,4 +1,4 @@
-//! Letters that are taken.
+//! Taking.
 
 ghost use Rattle.std.specs.Prelude.{[], slice_index_or, ◌≢◌};
 ghost use Rattle.auc_mail.specs.Mail.{HasBox, NothingWaits, blank_lane};
@@ -12,8 +12,8 @@ use crate::pool::MailPool;
 impl<T: Copy> MailPool<T> {
     /// Takes the first waiting letter of one of the box's lanes; where none has one, says whether one may still come.
     ///
-    /// Which lane is left open: it is the first with a letter, in rotating order from the one after the last giver.
-    /// Takes O(1) time where all letters of the box wait in one lane, or none waits, and else O(senders).
+    /// The contract leaves open which lane: it is the first with a letter, in rotating order from the one after the
+    /// last giver. Takes O(1) time where all letters of the box wait in one lane, or none waits, and else O(senders).
     #[inline(always)]
     pub fn take(&mut self, at: u32) -> Taken<T>
         requires { Fits self.old (Call.Take at) }
@@ -22,7 +22,7 @@ impl<T: Copy> MailPool<T> {
         if self.boxes[at as usize].waiting == 0 {
             return self.none_waits(at);
         }
-        // Where the newest letter's lane has all that wait, no other is looked at.
+        // Where the newest letter's lane has all that wait, no other lane is tested.
         let lane = self.boxes[at as usize].last;
         if self.lists.len(lane) == self.boxes[at as usize].waiting {
             return self.take_from(at, lane);
@@ -30,7 +30,7 @@ impl<T: Copy> MailPool<T> {
         self.take_in_turn(at)
     }
 
-    // What a take answers where no letter waits in the box.
+    // The result of a take where no letter waits in the box.
     #[inline]
     fn none_waits(&self, at: u32) -> Taken<T>
         requires at { HasBox self.now at }
@@ -65,8 +65,8 @@ impl<T: Copy> MailPool<T> {
         }
     }
 
-    // Takes the first letter of the lane whose turn it is. Inlined, so that no letter goes through memory: the lane
-    // alone is seldom looked for, and out of the callers.
+    // Takes the first letter of the lane whose turn it is. Inlined, so that no letter goes through memory: the search
+    // for the lane is rare, and stays out of the callers.
     #[inline(always)]
     fn take_in_turn(&mut self, at: u32) -> Taken<T>
         requires { HasBox self.old at }

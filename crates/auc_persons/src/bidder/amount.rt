@@ -10,7 +10,7 @@ ghost use Rattle.auc_persons.specs.Priced.{value_in};
 use crate::bidder::priced_row::PricedRow;
 use crate::bidder::scan::Scan;
 
-/// The price, what the best other arc costs more, and eps.
+/// The price plus the margin to the best other arc plus eps.
 #[inline]
 fn next_amount(price: i64, second: i64, value: i64, eps: i64) -> i64
     requires price { IsPrice price }
@@ -22,7 +22,7 @@ fn next_amount(price: i64, second: i64, value: i64, eps: i64) -> i64
     price + (second - value) + eps
 }
 
-/// The price, the scaled spread and eps.
+/// The price plus the scaled spread plus eps.
 #[inline]
 fn only_amount(price: i64, scaled_spread: i64, eps: i64) -> i64
     requires price { IsPrice price }
@@ -48,8 +48,8 @@ pub(crate) fn scaled(scale: i64, spread: i64) -> i64
     scale * spread
 }
 
-/// What is bid on the best arc of a row that a pass over it has found. `spread` is that of the costs of the file; `eps`
-/// is in scaled costs.
+/// The amount of a bid on the best arc of a row, which a pass has found. `spread` is that of the costs of the file;
+/// `eps` is in scaled costs.
 ///
 /// Takes O(1) time and no memory. The method is the bid of the auction algorithm (Bertsekas, 1979).
 pub(crate) fn amount_of(row: PricedRow, spread: i64, eps: i64, found: Scan) -> i64

@@ -1,4 +1,4 @@
-//! What a person bids, whose best arc is found.
+//! The bid of a person whose best arc is found.
 
 ghost use Rattle.std.specs.Prelude.{◌≡◌, [], IfSome, IfNone};
 ghost use Rattle.auc_letters.specs.Price.{IsEps};
@@ -12,7 +12,7 @@ use crate::bidder::scan::Scan;
 use crate::bidder::search::scan_from;
 use auc_letters::Bid;
 
-/// What a person bids, whose best arc is found.
+/// The bid of a person whose best arc is found.
 #[inline]
 pub(crate) fn bid_on(own: PersonRow, eps: i64, found: Scan) -> Bid
     requires eps { IsEps eps }
@@ -28,7 +28,7 @@ pub(crate) fn bid_on(own: PersonRow, eps: i64, found: Scan) -> Bid
     }
 }
 
-/// What a person bids, by one pass over his row; nothing where he has no arc.
+/// The bid of a person, by one pass over the row; none where the person has no arc.
 #[inline]
 pub(crate) fn plain_bid(own: PersonRow, eps: i64) -> Option<Bid>
     requires eps { IsEps eps }

@@ -17,11 +17,11 @@ use std::alloc::{AllocError, Global};
 use std::marker::Model;
 use std::snapshot::Snapshot;
 
-/// A bound for each 16 arcs of the long rows. They are of the rows that they were made for, and stay right as long as
-/// no copy falls.
+/// A bound for each block of 16 arcs of the long rows. They are of the rows that they were made for, and stay right as
+/// long as no copy falls.
 #[derive(Drop)]
 pub(crate) struct Blocks {
-    // The rows that they were made for. It has no bytes.
+    // The rows that they were made for. A snapshot takes no bytes.
     made: Snapshot<Rows>,
     persons: Vec<Blocked>,
     bounds: Vec<Bound>,
@@ -39,7 +39,7 @@ impl Model for Blocks {
     ghost invariant = { λ b. All (HasArcs b.made.value) b.persons.items × All (AreNumbered b.bounds.items) b.persons.items };
 }
 
-/// How many blocks a row of so many arcs has.
+/// The number of blocks of a row of so many arcs.
 fn blocks_of(arcs: usize) -> usize
     ensures each { (k : ℕ) → k < result → 16 * k < arcs }
     ensures all { (k : ℕ) → 256 < arcs → 16 * k < arcs → k < result }
@@ -50,7 +50,7 @@ fn blocks_of(arcs: usize) -> usize
     (arcs - 1) / BLOCK + 1
 }
 
-/// The bounds of so many blocks of a person come after the others. Nobody has looked at them.
+/// Appends the bounds of a person's blocks, which nobody has scanned yet.
 fn append_bounds(person: u32, blocks: usize, bounds: &mut Vec<Bound>) -> Result<(), AllocError>
     ensures { IfOk result (λ _. AreAppended person blocks bounds.old.items bounds.new.items) }
 {
@@ -95,8 +95,8 @@ impl Blocks {
         })
     }
 
-    /// The best arc of a person, if he has blocks; they make the list of a very long row anew. `place` is the number of
-    /// his list.
+    /// The best arc of a person who has blocks; they make the list of a very long row anew. `place` is the place of the
+    /// person's list.
     pub(crate) fn scan(
         &mut self,
         own: PersonRow,

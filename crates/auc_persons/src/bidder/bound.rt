@@ -2,21 +2,21 @@
 
 use std::snapshot::Snapshot;
 
-/// How many arcs a block has; the last one of a row may have fewer.
+/// The number of arcs of a block; the last one of a row may have fewer.
 pub(crate) const BLOCK: usize = 16;
-/// The bound of a block that nobody has looked at.
+/// The bound of a block that hasn't been scanned.
 pub(crate) const NO_BOUND: i64 = i64::MIN;
 
-/// A value that no arc of a block is below.
+/// A lower bound of the values of the arcs of a block.
 #[derive(Drop)]
 pub(crate) struct Bound {
     pub least: i64,
-    // Of which person's blocks it is one, and the number of the block: for good, and in no bytes.
+    // The person and the number of the block; they never change, and take no bytes.
     pub person: Snapshot<u32>,
     pub block: Snapshot<usize>,
 }
 
-/// A person, how many arcs he has, and where the bounds of his blocks begin.
+/// A person, the number of the person's arcs, and where the bounds of the person's blocks begin.
 #[derive(Clone, Copy)]
 pub(crate) struct Blocked {
     pub person: u32,

@@ -1,4 +1,4 @@
-//! A person's best arc, in a pass over his row that leaves blocks out whose bound is too high.
+//! A person's best arc, in a pass over the row that skips blocks whose bound is too high.
 
 ghost use Rattle.std.specs.Prelude.{◌≡◌, ◌<◌, ◌≤◌, ◌+◌, ◌<ℤ◌, ◌≤ℤ◌, length, slice_index_or, IfSome, ℕ};
 ghost use Rattle.std.specs.List.{AllWithin};
@@ -17,7 +17,7 @@ use crate::bidder::search::{Search, begun};
 use auc_graph::Rows;
 use std::snapshot::Snapshot;
 
-/// A search with the arcs of a row from one place to another.
+/// A search with the arcs of a row from one place to another taken in.
 #[inline]
 fn with_part(row: PricedRow, begun: Search, from: usize, to: usize) -> Search
     requires within { to ≤ length row.arcs.now }
@@ -38,8 +38,8 @@ fn with_part(row: PricedRow, begun: Search, from: usize, to: usize) -> Search
     search
 }
 
-/// A search with the arcs of a block, none of which is below this value. Most blocks change nothing, and are left out
-/// by one test.
+/// A search with the arcs of a block taken in, none of which has a value below this one. Most blocks change nothing,
+/// and are skipped by one test.
 #[inline]
 fn with_block(row: PricedRow, begun: Search, from: usize, least: i64) -> Search
     requires within { from ≤ length row.arcs.now }
@@ -59,7 +59,7 @@ fn with_block(row: PricedRow, begun: Search, from: usize, least: i64) -> Search
     with_part(row, begun, from, to)
 }
 
-/// The next block from this one on whose bound is not above a limit; how many blocks there are where each is above it.
+/// The next block from this one on whose bound is not above a limit; the number of blocks where there is none.
 #[inline(always)]
 pub(crate) fn next_within(
     bounds: &[Bound],
@@ -83,9 +83,9 @@ pub(crate) fn next_within(
     count
 }
 
-/// The best arc of a person with a long row, in one pass over his blocks that begins with what is known of some arcs of
-/// it. Each block that is looked at gets its least value as bound.
-// Apart: docs/CODEGEN.md, "Loops of their own".
+/// The best arc of a person with a long row, in one pass over the blocks. It begins with what is known of some arcs of
+/// the row. The bound of each block that is scanned becomes its least value.
+// Not inlined: docs/CODEGEN.md, "Loops of their own".
 #[inline(never)]
 pub(crate) fn scan_blocks(
     own: PersonRow,
@@ -108,7 +108,7 @@ pub(crate) fn scan_blocks(
     let row = PricedRow::of(own);
     let start = blocked.start;
     let count = (row.arcs.len() - 1) / BLOCK + 1;
-    // Never so; asked once, in place of a proof for each look at a bound.
+    // Never so; tested once, in place of a proof for each read of a bound.
     if start > bounds.len() || count > bounds.len() - start {
         return None;
     }

@@ -1,6 +1,6 @@
 //! The least value of the arcs of a block.
 //!
-//! It is looked for by itself, with no branch: nearly always it tells that the block has nothing to say.
+//! It is found in a pass of its own, with no branch: nearly always it shows that no arc of the block matters.
 
 ghost use Rattle.std.specs.Prelude.{◌≤◌, ◌+◌, length};
 ghost use Rattle.auc_persons.specs.Blocks.{Above};
@@ -9,7 +9,7 @@ ghost use Rattle.auc_persons.specs.Priced.{value_in};
 use crate::bidder::bound::BLOCK;
 use crate::bidder::priced_row::PricedRow;
 
-/// No arc of a whole block, which begins here, is below this.
+/// A lower bound of the values of a whole block, which begins here.
 #[inline(always)]
 fn least_of_whole(row: PricedRow, from: usize) -> i64
     requires within { from + 16 ≤ length row.arcs.now }
@@ -23,7 +23,7 @@ fn least_of_whole(row: PricedRow, from: usize) -> i64
     least
 }
 
-/// No arc of a row from one place to another is below this.
+/// A lower bound of the values of a row from one place to another.
 fn least_of_part(row: PricedRow, from: usize, to: usize) -> i64
     requires within { to ≤ length row.arcs.now }
     ensures { Above (value_in row.entry) row.entry.arcs.now from to result }
@@ -35,8 +35,8 @@ fn least_of_part(row: PricedRow, from: usize, to: usize) -> i64
     least
 }
 
-/// The least value of the arcs of the block that begins here, which is shorter where the row ends in it.
-// In line: docs/CODEGEN.md, "A block written out".
+/// The least value of the arcs of the block that begins here; the last block of a row may be shorter.
+// Inlined: docs/CODEGEN.md, "A block written out".
 #[inline(always)]
 pub(crate) fn least_of(row: PricedRow, from: usize) -> i64
     requires within { from ≤ length row.arcs.now }

@@ -1,4 +1,4 @@
-//! The lists of candidates of a shard's persons: those with long rows have one.
+//! The candidate lists of a shard's persons: each person with a long row has one.
 
 ghost use Rattle.std.specs.Prelude.{◌≡◌, ◌<◌, List, ℤ, length, IfOk, IfSome};
 ghost use Rattle.auc_persons.specs.Candidates.{Kept};
@@ -13,7 +13,7 @@ use crate::bidder::way::SHORT;
 use auc_graph::Rows;
 use std::alloc::{AllocError, Global};
 
-/// How many arcs a list is to hold.
+/// The number of arcs that a list should have.
 const WANTED: i64 = 11;
 
 /// Whether a person is of shard number `shard` of `of`, and has a list.
@@ -24,7 +24,7 @@ pub(crate) fn has_list(rows: &Rows, person: u32, shard: u32, of: u32) -> bool
     person % of == shard && rows.row(person).len() > SHORT
 }
 
-/// How many persons of shard number `shard` of `of` have lists.
+/// The number of persons of shard number `shard` of `of` who have lists.
 pub(crate) fn lists_wanted(rows: &Rows, shard: u32, of: u32) -> usize
     requires { shard < of }
 {
@@ -37,7 +37,7 @@ pub(crate) fn lists_wanted(rows: &Rows, shard: u32, of: u32) -> usize
     count
 }
 
-/// How far above the second the first bound of a person is to lie.
+/// How far the first bound of a person should be above the second-best value.
 fn first_delta(rows: &Rows, person: u32) -> i64
     requires { person < length rows.now.rows }
 {
@@ -64,8 +64,8 @@ pub(crate) fn lists_of(
     Ok(lists)
 }
 
-/// The best arc of a person, where his list tells it. `place` is its number.
-// In line: docs/CODEGEN.md, "A person's row by value".
+/// The best arc of a person, where the list decides it. `place` is the place of the list.
+// Inlined: docs/CODEGEN.md, "A person's row by value".
 #[inline(always)]
 pub(crate) fn scan_list(lists: &mut [Shortlist], own: PersonRow, place: u32) -> Option<Scan>
     requires kept { KeptAt own lists.old }

@@ -1,7 +1,7 @@
-//! A list of candidates of a very long row, made by its blocks.
+//! A candidate list of a very long row, made by its blocks.
 //!
-//! The blocks have decided the bid, so the second of the whole row is known, and a block whose bound is not below that
-//! of the new list has no arc for it.
+//! The blocks have decided the bid, so the second-best value of the whole row is known. A block whose bound is not
+//! below that of the new list has no arc for it.
 
 ghost use Rattle.std.specs.Prelude.{true, false, ◌≡◌, ◌<◌, ◌≤◌, ◌+◌, ◌^◌, [], pos, neg_ℤ, ◌<ℤ◌, ◌≤ℤ◌, IfSome, length, take};
 ghost use Rattle.auc_graph.specs.Table.{row_of};
@@ -22,7 +22,7 @@ use auc_graph::Rows;
 use std::snapshot::Snapshot;
 
 impl Shortlist {
-    /// Takes the arcs below a bound of the block that begins here, none of whose arcs is below `least`; no arc at all
+    /// Takes the arcs below a bound of the block that begins here, whose values are at least `least`; no arc at all
     /// where they are too many.
     #[inline]
     fn take_block(&mut self, row: PricedRow, bound: i64, from: usize, least: i64) -> bool
@@ -42,9 +42,9 @@ impl Shortlist {
     }
 }
 
-/// Takes the arcs of a long row that are below a bound; none where they are too many. Each block that is looked at gets
-/// its least value as bound.
-// Apart: docs/CODEGEN.md, "Loops of their own".
+/// Takes the arcs of a long row that are below a bound; none where they are too many. The bound of each block that is
+/// scanned becomes its least value.
+// Not inlined: docs/CODEGEN.md, "Loops of their own".
 #[inline(never)]
 fn fill_by_blocks(
     own: PersonRow,
@@ -71,7 +71,7 @@ fn fill_by_blocks(
     let start = blocked.start;
     let count = (row.arcs.len() - 1) / BLOCK + 1;
     list.begin(bound);
-    // Never so; asked once, in place of a proof for each look at a bound.
+    // Never so; tested once, in place of a proof for each read of a bound.
     if start > bounds.len() || count > bounds.len() - start {
         return false;
     }
@@ -89,7 +89,7 @@ fn fill_by_blocks(
     true
 }
 
-/// Makes the list of a person with a very long row anew, so that it reaches above the second of his row.
+/// Makes the list of a person with a very long row anew, with a bound above the second-best value of the row.
 fn list_anew(
     own: PersonRow,
     made: &Snapshot<Rows>,
@@ -122,7 +122,7 @@ fn list_anew(
     list.adapt(fitted);
 }
 
-/// The best arc of a person with a long row, by his blocks; and where the row is very long, they make his list anew.
+/// The best arc of a person with a long row, by the blocks. Where the row is very long, they make the list anew.
 #[tactic(auto, using(crate::proofs::BlockNumbers::same_then))]
 pub(crate) fn scan_and_list(
     own: PersonRow,
@@ -144,7 +144,7 @@ pub(crate) fn scan_and_list(
     ensures right { AreRight made.now.value own.entry.rows.now own.entry.copies.now bounds.new }
     ensures same { AreOfSame bounds.old bounds.new }
 {
-    // Its best and second are bounds of the row's, by which more blocks are left out.
+    // The list's best and second-best values are bounds of the row's, by which more blocks are skipped.
     let known = list.listed(PricedRow::of(own));
     let found = scan_blocks(own, made, blocked, known, bounds)?;
     list_anew(own, made, blocked, bounds, list, found.second);

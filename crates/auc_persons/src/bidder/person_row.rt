@@ -1,14 +1,14 @@
-//! Whose row is looked over, and at which copies of the prices.
+//! The row that is scanned, and the copies of the prices.
 //!
-//! What must hold of them is told here once. It goes by value through all ways to find a bid.
+//! Its requirements are stated here once. It is passed by value through all methods of finding a bid.
 
 ghost use Rattle.std.specs.Prelude.{◌≡◌, ◌<◌, All, length};
 ghost use Rattle.auc_graph.specs.Price.{IsPrice};
 
 use auc_graph::Rows;
 
-/// A person, the rows of all, of which one is his own, and the copies of the prices, indexed by object, at which that
-/// is looked over.
+/// A person, the rows of all persons, and the copies of the prices, indexed by object, at which the person's row is
+/// scanned.
 #[derive(Clone, Copy)]
 pub(crate) struct PersonRow<'a> {
     pub rows: &'a Rows,

@@ -1,4 +1,4 @@
-//! A row of arcs, with the prices at which it is looked over.
+//! A row of arcs, with the prices at which it is scanned.
 
 ghost use Rattle.std.specs.Prelude.{pos, ◌≤ℤ◌, All, length};
 ghost use Rattle.auc_graph.specs.Table.{IsRow};
@@ -8,11 +8,11 @@ use crate::bidder::person_row::PersonRow;
 use crate::bidder::scan::{scale_of, value_of};
 use auc_graph::RowArc;
 
-/// Arcs of one person, in the order of his row, and the copies of the prices, indexed by object, that their values are
-/// made of.
+/// The arcs of one person, in the order of the row, and the copies of the prices, indexed by object, that give their
+/// values.
 #[derive(Clone, Copy)]
 pub(crate) struct PricedRow<'a> {
-    // One more than the persons, by which costs are scaled.
+    // The number of persons plus one, by which costs are scaled.
     pub scale: i64,
     pub arcs: &'a [RowArc],
     pub copies: &'a [i64],
@@ -41,7 +41,7 @@ impl<'a> PricedRow<'a> {
         }
     }
 
-    /// The value of the arc that stands here, in scaled costs.
+    /// The value of the arc at this place, in scaled costs.
     #[inline(always)]
     pub fn value(self, place: usize) -> i64
         requires { place < length self.arcs.now }

@@ -1,15 +1,15 @@
-//! The best arc so far of a row whose objects rise, in a pass that has no branch by the values.
+//! The best arc so far of a row in rising order of objects, in a pass that has no branch by the values.
 //!
-//! In a short row best and second change at every few arcs, and in a price war the processor can't guess at which: with
-//! selects alone no guess is wrong. Where objects rise, as in a file that is sorted, the first of equal arcs is the one
-//! to the lowest object, and no two arcs lead to the same: so the values alone decide.
+//! In a short row the best and the second best change every few arcs, and in a price war the processor can't predict
+//! where. With selects alone nothing is mispredicted. In rising order, as in a sorted file, the first of equal arcs is
+//! the one to the lowest object, and no two arcs lead to the same object. So the values alone decide.
 
 ghost use Rattle.auc_persons.specs.Rising.{Drawn};
 
 use auc_graph::RowArc;
 
-/// The least value so far, the least one of the other arcs (the greatest number where there is none), and the best arc
-/// itself: so that a pass counts nothing but where it stands.
+/// The least value so far, the least value of the other arcs, and the best arc itself, so that a pass counts nothing
+/// but its place. Where there are no other arcs, the second is the greatest number.
 #[derive(Clone, Copy)]
 pub(crate) struct Nearest<'a> {
     pub value: i64,
@@ -18,13 +18,13 @@ pub(crate) struct Nearest<'a> {
 }
 
 impl<'a> Nearest<'a> {
-    /// With one arc more, of this value.
+    /// With one more arc, of this value.
     #[inline(always)]
     pub(crate) fn with(self, value: i64, arc: &'a RowArc) -> Nearest<'a>
         ensures { Drawn self.entry value arc.now result }
     {
         let is_less = value < self.value;
-        // Each number apart: docs/CODEGEN.md, "Numbers chosen one by one".
+        // Each number by itself: docs/CODEGEN.md, "Numbers chosen one by one".
         let second = if is_less {
             self.value
         } else if value < self.second {

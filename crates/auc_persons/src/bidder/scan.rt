@@ -1,4 +1,4 @@
-//! What a pass over a row has found, and the values that it is found by.
+//! The result of a pass over a row, and the values of arcs.
 
 ghost use Rattle.std.specs.Prelude.{◌≡◌, ◌≤◌, ◌+◌, ◌^◌, pos, neg_ℤ, ◌+ℤ◌, ◌*ℤ◌, ◌≤ℤ◌};
 ghost use Rattle.auc_graph.specs.Price.{IsPrice};
@@ -14,7 +14,7 @@ pub(crate) struct Scan {
     pub best: RowArc,
 }
 
-/// One more than the persons, by which costs are scaled.
+/// The number of persons plus one, by which costs are scaled.
 pub(crate) fn scale_of(persons: u32) -> i64
     requires { persons ≤ MOST_PERSONS }
     ensures is { result ≡ pos (persons + 1) }
@@ -24,7 +24,7 @@ pub(crate) fn scale_of(persons: u32) -> i64
     persons as i64 + 1
 }
 
-/// The value of an arc at a price.
+/// The value of an arc at a price: its scaled cost plus the price.
 #[inline]
 pub(crate) fn value_of(scale: i64, cost: i32, price: i64) -> i64
     requires scale_low { pos 1 ≤ℤ scale }

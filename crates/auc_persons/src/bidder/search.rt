@@ -1,6 +1,6 @@
-//! A person's best arc, in one pass over his row with a branch by values, in which arcs may come in any order.
+//! A person's best arc, in one pass over the row with a branch by values; arcs may come in any order.
 //!
-//! After some arcs nearly every arc of a long row fails one test, and the processor guesses that it does.
+//! After some arcs nearly every arc of a long row fails one test, and the processor predicts that.
 
 ghost use Rattle.std.specs.Prelude.{◌≡◌, ◌^◌, ◌≤ℤ◌, pos, neg_ℤ, IfSome, IfNone, []};
 ghost use Rattle.auc_persons.specs.Scan.{IsScan, IsValue};
@@ -11,7 +11,7 @@ use crate::bidder::priced_row::PricedRow;
 use crate::bidder::scan::Scan;
 use auc_graph::RowArc;
 
-/// What is found so far.
+/// The result so far.
 #[derive(Clone, Copy)]
 pub(crate) struct Search {
     pub scan: Scan,
@@ -20,7 +20,7 @@ pub(crate) struct Search {
 }
 
 impl Scan {
-    /// Whether an arc of this value goes before the best one: arcs may come in any order, so of equal ones to one
+    /// Whether an arc of this value is better than the best one. Arcs may come in any order, so of equal ones to one
     /// object the place in the row decides.
     #[inline]
     fn is_preceded(self, arc: RowArc, value: i64) -> bool
@@ -40,14 +40,14 @@ impl Scan {
 }
 
 impl Search {
-    /// With what decides it.
+    /// The search with this result.
     #[inline]
     fn by(scan: Scan) -> Search
         requires low { neg_ℤ (pos (2 ^ 44)) ≤ℤ scan.second }
         ensures scan { result.scan ≡ scan }
         ensures limit { IsLimit result.scan result.limit }
     {
-        // Where the best is as good as the second, an arc of the same value may still go before it.
+        // Where the best is as good as the second, an arc of the same value may still be the better one.
         let limit = if scan.value < scan.second {
             scan.second - 1
         } else {
@@ -56,7 +56,7 @@ impl Search {
         Search { scan, limit }
     }
 
-    /// With one arc more, of this value.
+    /// With one more arc, of this value.
     #[inline]
     pub(crate) fn with(self, arc: RowArc, value: i64) -> Search
         requires value { IsValue value }
@@ -102,7 +102,8 @@ impl Search {
     }
 }
 
-/// What is decided by a pass over some arcs of the row, or else by the first one; nothing where the row has no arc.
+/// A search that begins with the result of a pass over some arcs of the row, or else with the row's first arc; none
+/// where the row has no arc.
 #[inline]
 pub(crate) fn begun(row: PricedRow, known: Option<Scan>) -> Option<Search>
     requires known { IfSome known (IsFound (value_in row) row.arcs.now) }
@@ -123,7 +124,7 @@ pub(crate) fn begun(row: PricedRow, known: Option<Scan>) -> Option<Search>
     }))
 }
 
-/// The best arc of a row, in one pass with a branch by values; nothing where the row has no arc.
+/// The best arc of a row, in one pass with a branch by values; none where the row has no arc.
 pub(crate) fn scan_from(row: PricedRow) -> Option<Scan>
     ensures some { IfSome result (IsScan (value_in row.entry) row.entry.arcs.now) }
     ensures none { IfNone result (row.entry.arcs.now ≡ []) }

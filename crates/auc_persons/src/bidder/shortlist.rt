@@ -1,8 +1,8 @@
-//! The candidates of one person: the few arcs of his row that were best when the list was made, and a bound that no
-//! other arc of the row is below.
+//! The candidate list of one person: the few arcs of the row that were best when the list was made, and a bound. No
+//! other arc of the row has a value below the bound.
 //!
-//! Copies of prices never fall, so a bound of an arc's value stays one. How the bound is found is of no importance to
-//! what is bid; it stands in `shortlist/making.rt`.
+//! Copies of prices never fall, so a bound of an arc's value stays one. How the bound is found doesn't change any bid;
+//! it is in `shortlist/making.rt`.
 
 ghost use Rattle.std.specs.Prelude.{false, true, ◌≡◌, ◌<◌, ◌≤◌, ◌^◌, ◌<ℤ◌, ◌≤ℤ◌, [], ◌∷◌, ◌++◌, pos, IsTrue, IfSome, length, take};
 ghost use Rattle.auc_persons.specs.Candidates.{Decides, Keeps, Listed, no_list};
@@ -22,19 +22,19 @@ use crate::bidder::way::VERY_LONG;
 use auc_graph::RowArc;
 use std::marker::Model;
 
-/// How many arcs a list has room for.
+/// The greatest number of arcs of a list.
 pub(crate) const ROOM: usize = 24;
 
 /// The candidates of one person.
 #[derive(Drop)]
 pub(crate) struct Shortlist {
     bound: i64,
-    // How far above the second the next bound is to lie.
+    // How far the next bound should be above the second-best value.
     delta: i64,
     arcs: [RowArc; ROOM],
     person: u32,
     count: u8,
-    // Whether the arcs lead to rising objects, as those of a sorted row do.
+    // Whether the arcs are in rising order of objects, as those of a sorted row are.
     rises: bool,
 }
 
@@ -52,7 +52,7 @@ impl Model for Shortlist {
 }
 
 impl Shortlist {
-    /// A list with no arc, which says nothing. The first bound is to lie about so far above the second.
+    /// An empty list, which decides nothing. Its first bound should be about `delta` above the second-best value.
     pub(crate) fn new(person: u32, delta: i64) -> Shortlist
         ensures { result ≡ no_list person }
     {
@@ -70,7 +70,7 @@ impl Shortlist {
         }
     }
 
-    /// Whose list it is.
+    /// The person of the list.
     #[inline]
     pub(crate) fn person(&self) -> u32
         ensures { result ≡ self.now.person }
@@ -87,7 +87,7 @@ impl Shortlist {
         &self.arcs[..self.count as usize]
     }
 
-    /// Whether the arcs lead to rising objects with one more, too.
+    /// Whether the arcs are in rising order of objects with one more, too.
     #[inline]
     fn rises_with(&self, arc: RowArc) -> bool
         ensures { result ≡ true → IsRisingRow (self.now.arcs ++ arc ∷ []) }
@@ -101,7 +101,7 @@ impl Shortlist {
         self.arcs[self.count as usize - 1].object < arc.object
     }
 
-    /// One arc more.
+    /// Appends an arc.
     #[inline]
     fn push(&mut self, arc: RowArc)
         requires { length self.old.arcs < 24 }
@@ -112,7 +112,7 @@ impl Shortlist {
         self.count += 1;
     }
 
-    /// Whether there is no room for an arc more.
+    /// Whether there is no room for another arc.
     #[inline]
     fn is_full(&self) -> bool
         ensures { result ≡ false → length self.now.arcs < 24 }
@@ -120,8 +120,8 @@ impl Shortlist {
         self.count as usize == ROOM
     }
 
-    /// Whether what a pass over the list has found is what one over the row would find: no arc left out is as good as
-    /// the best or better than the second.
+    /// Whether a pass over the list finds what one over the row would: no arc left out is as good as the best or better
+    /// than the second.
     #[inline]
     fn decides(&self, scan: Scan) -> bool
         ensures { IsTrue result → Decides self.now.bound scan }
@@ -129,7 +129,7 @@ impl Shortlist {
         scan.value < self.bound && scan.second <= self.bound
     }
 
-    /// What a pass over the list finds, which is what one over the row would find where it decides; nothing where the
+    /// The result of a pass over the list, where the list decides: it is that of a pass over the row. None where the
     /// list has no arc.
     #[inline]
     pub(crate) fn listed(&self, row: PricedRow) -> Option<Scan>
@@ -153,9 +153,9 @@ impl Shortlist {
         })
     }
 
-    /// Makes a list anew, and finds the best arc by it; nothing where no list is made, or it doesn't decide. `second`
-    /// bounds that of the row: the second of the list's arcs, where they have one, and else the greatest number. The
-    /// blocks of a very long row make its list themselves.
+    /// Makes a list anew, and finds the best arc by it; none where no list is made, or it doesn't decide. `second`
+    /// bounds that of the row: it is the second of the list's arcs, where there is one, and else the greatest number.
+    /// Lists of very long rows are made by their blocks instead.
     fn scan_anew(&mut self, row: PricedRow, second: i64) -> Option<Scan>
         requires keeps { Keeps (value_in row) row.arcs.now self.old.arcs self.old.bound }
         requires second { second <ℤ endless → IsValue second }
@@ -183,7 +183,7 @@ impl Shortlist {
     }
 
     /// The best arc of the row, where the list or one that is made anew decides.
-    // Apart: docs/CODEGEN.md, "A list's own registers".
+    // Not inlined: docs/CODEGEN.md, "A list's own registers".
     #[inline(never)]
     pub(crate) fn scan(&mut self, row: PricedRow) -> Option<Scan>
         requires keeps { Keeps (value_in row) row.arcs.now self.old.arcs self.old.bound }

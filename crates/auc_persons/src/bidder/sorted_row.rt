@@ -1,4 +1,4 @@
-//! Arcs whose objects rise, with the prices at which they are looked over.
+//! Arcs in rising order of objects, with the prices at which they are scanned.
 
 ghost use Rattle.std.specs.Prelude.{◌-◌, ◌^◌, pos, ◌≤ℤ◌, All, length};
 ghost use Rattle.auc_graph.specs.Table.{IsRowArc};
@@ -9,11 +9,11 @@ use crate::bidder::rising::Nearest;
 use crate::bidder::scan::{Scan, value_of};
 use auc_graph::RowArc;
 
-/// Arcs of one person in rising order of their objects, and the copies of the prices, indexed by object, that their
-/// values are made of.
+/// Arcs of one person in rising order of their objects, and the copies of the prices, indexed by object, that give
+/// their values.
 #[derive(Clone, Copy)]
 pub(crate) struct SortedRow<'a> {
-    // One more than the persons, by which costs are scaled.
+    // The number of persons plus one, by which costs are scaled.
     pub scale: i64,
     pub arcs: &'a [RowArc],
     pub copies: &'a [i64],
@@ -30,7 +30,7 @@ impl<'a> SortedRow<'a> {
     ghost use Rattle.auc_persons.specs.Priced.{arc_at};
     ghost use Rattle.auc_persons.specs.Scan.{copy_in, IsScan, IsValue};
 
-    /// The value of the arc that stands here, in scaled costs.
+    /// The value of the arc at this place, in scaled costs.
     #[inline(always)]
     fn value(self, place: usize) -> i64
         requires { place < length self.arcs.now }
@@ -41,8 +41,8 @@ impl<'a> SortedRow<'a> {
         value_of(self.scale, arc.cost, self.copies[arc.object as usize])
     }
 
-    /// The best arc; nothing where there is none. The pass has no branch by values, and tests nothing but its end.
-    // In line: docs/CODEGEN.md, "A search in line" and "A list's own registers".
+    /// The best arc; none where there is no arc. The pass has no branch by values, and tests nothing but its end.
+    // Inlined: docs/CODEGEN.md, "A search in line" and "A list's own registers".
     #[inline(always)]
     pub fn best(self) -> Option<Scan>
         ensures some { IfSome result (IsScan (value self.entry.scale (copy_in self.entry.copies.now)) self.entry.arcs.now) }

@@ -1,4 +1,4 @@
-//! The ways for the rows of a shard's persons, and copies that rise of the short rows that don't.
+//! The methods for the rows of a shard's persons, and copies in rising order of the short rows that aren't.
 
 ghost use Rattle.std.specs.Prelude.{◌≡◌, ◌<◌, ◌≤◌, ◌+◌, List, ℤ, length, All, AllPairs, IfOk, IfSome};
 ghost use Rattle.auc_persons.specs.Candidates.{Kept};
@@ -16,13 +16,13 @@ use std::alloc::{AllocError, Global};
 use std::marker::Model;
 use std::snapshot::Snapshot;
 
-/// The way for each person's row. They are of the rows that they were made for, whatever the prices are.
+/// The method for each person's row. They are of the rows that they were made for, whatever the prices are.
 #[derive(Drop)]
 pub(crate) struct Ways {
-    // The rows that they were made for. It has no bytes.
+    // The rows that they were made for. A snapshot takes no bytes.
     made: Snapshot<Rows>,
     ways: Vec<Way>,
-    // The copies, one after the other.
+    // The copies, one after another.
     arcs: Vec<RowArc>,
 }
 
@@ -38,7 +38,7 @@ impl Model for Ways {
     ghost invariant = { λ w. AreWays w.made.value w.arcs.items w.ways.items };
 }
 
-/// Puts the arcs of a short row after the other copies, sorted.
+/// Appends the arcs of a short row to the copies, sorted.
 fn copied(
     row: &[RowArc],
     sorted: &mut Vec<RowArc>,
@@ -53,7 +53,7 @@ fn copied(
     sort_row(row, sorted)?;
     let start = arcs.len();
     arcs.extend_from_slice(sorted.as_slice())?;
-    // Never so: asked in place of a proof.
+    // Never so: tested in place of a proof.
     if start > u32::MAX as usize || sorted.len() > SHORT {
         return Ok(Way::Plain);
     }
@@ -63,8 +63,7 @@ fn copied(
     })
 }
 
-/// The way for a row, if it is the shard's own; a copy that is wanted comes after the others. `place` is for a row with
-/// a list.
+/// The method for a row, if it is of the shard; appends a copy where one is needed. `place` is for a row with a list.
 fn way_of(
     row: &[RowArc],
     is_own: bool,
@@ -89,7 +88,7 @@ fn way_of(
     copied(row, sorted, arcs)
 }
 
-/// How many lists there are with one way more.
+/// The number of lists with one more row, of this method.
 fn count_with(lists: u32, way: Way) -> u32
     requires { lists < 10000 }
     ensures { result ≤ lists + 1 }
@@ -101,8 +100,8 @@ fn count_with(lists: u32, way: Way) -> u32
 }
 
 impl Ways {
-    /// The ways for the persons of shard number `shard` of `of`. They take 8 bytes for each person of all, and 12 to 24
-    /// for each arc of the shard's short rows that don't rise.
+    /// The methods for the persons of shard number `shard` of `of`. They take 8 bytes for each person of all, and 12 to
+    /// 24 for each arc of the shard's short rows that aren't in rising order.
     pub(crate) fn make(alloc: Global, rows: &Rows, shard: u32, of: u32) -> Result<Ways, AllocError>
         requires { shard < of }
         ensures kept { IfOk result (λ w. (copies : List ℤ) → Kept rows.now copies w) }
@@ -162,7 +161,7 @@ impl Ways {
         self.sorted(own)?.best()
     }
 
-    /// The number of a person's list, where he has one.
+    /// The place of a person's list, where there is one.
     pub(crate) fn place(&self, person: u32) -> Option<u32> {
         let person = person as usize;
         if person >= self.ways.len() {

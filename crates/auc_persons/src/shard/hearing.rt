@@ -1,4 +1,4 @@
-//! What a shard of the persons hears: answers and prices.
+//! The letters to a shard of the persons: answers and prices.
 
 ghost use Rattle.std.specs.Prelude.{◌≡◌, ◌≢◌, ◌<◌, length, IsTrue, ◌↔◌};
 ghost use Rattle.auc_graph.specs.Price.{IsPrice};
@@ -11,7 +11,7 @@ use auc_graph::MOST_PRICE;
 use auc_letters::{Letter, PersonState, shard_of};
 
 impl PersonShard {
-    /// Whether an answer to a person fits where he stands as it wants.
+    /// Whether a person's state is the one that an answer wants.
     #[inline]
     fn is_fitting(&self, person: u32, object: u32, price: i64, wanted: PersonState) -> bool
         ensures { IsTrue result ↔ FitsAnswer self.now person object price wanted }
@@ -32,7 +32,7 @@ impl PersonShard {
         (object as usize) < self.copies.len() && 0 <= price && price <= MOST_PRICE
     }
 
-    /// A copy is set to a price, unless that is below it.
+    /// Sets a copy to a price, unless that is below the copy.
     #[tactic(auto, using(crate::proofs::Rise::rises_set, crate::proofs::Rise::rises_same, crate::proofs::Rise::shape_copy, crate::proofs::Rise::shape_same))]
     #[inline]
     fn raise_copy(&mut self, object: u32, price: i64) -> Result<(), PersonFault>
@@ -90,7 +90,7 @@ impl PersonShard {
 
     /// A Price.
     #[tactic(auto, using(crate::proofs::Rise::shape_copy, crate::proofs::Rise::shape_same, crate::proofs::Rise::rises_same))]
-    // Apart: docs/CODEGEN.md, "Letters taken in line".
+    // Not inlined: docs/CODEGEN.md, "Letters taken in line".
     #[inline(never)]
     fn on_price(&mut self, object: u32, price: i64) -> Result<(), PersonFault>
         ensures exact { Priced self.old object price result self.new }
@@ -105,14 +105,14 @@ impl PersonShard {
 
     /// Takes a letter: an answer to a bid, an Outbid or a price. O(1), and no memory.
     ///
-    /// An Award wants a person of the shard who waits for the object; he then holds it. A Refused wants the same, and
-    /// an Outbid one who holds the object; he is then the last of the free persons. Each of them, and Price, sets the
-    /// copy of the object's price.
+    /// An Award wants a person of the shard who waits for the object; the person then holds it. A Refused wants the
+    /// same, and an Outbid a person who holds the object; the person is then the last of the free persons. Each of
+    /// them, and Price, sets the copy of the object's price.
     ///
     /// # Errors
     ///
-    /// Nothing is changed by a letter that is refused. [`PersonFault::Stray`] comes first: another kind of letter, a
-    /// person or an object that isn't the shard's or is out of range, a price out of range, or a state that doesn't
+    /// Nothing is changed by a letter that is refused. [`PersonFault::Stray`] comes first. Its causes are another kind
+    /// of letter, a person or an object out of range or not the shard's, a price out of range, and a state that doesn't
     /// fit. Then [`PersonFault::Fell`]: the price is below the copy.
     // docs/CODEGEN.md, "Letters taken in line".
     #[inline(always)]

@@ -1,4 +1,4 @@
-//! What a shard of the persons bids next.
+//! The next bid of a shard of the persons.
 
 ghost use Rattle.std.specs.Prelude.{◌≡◌, ◌≢◌, ◌<◌, [], length, IfSome, IfNone};
 ghost use Rattle.auc_graph.specs.Table.{row_of};
@@ -16,7 +16,7 @@ use auc_graph::{MOST_PRICE, Rows};
 use auc_letters::{Bid, Why};
 
 impl PersonShard {
-    /// What comes of the bid of the person who has been free longest, where he has one.
+    /// The result of the bid of the person who has been free longest, where there is a bid.
     #[tactic(auto, using(crate::proofs::Rise::shape_bid, crate::proofs::Rise::shape_same))]
     #[inline(always)]
     fn bid_with(&mut self, rows: &Rows, eps: i64, found: Option<Bid>) -> Bidding
@@ -43,11 +43,15 @@ impl PersonShard {
         Bidding::Out { out }
     }
 
-    /// The bid of the person who has been free longest; he waits from now on. Idle where nobody is free.
+    /// The bid of the person who has been free longest, who waits afterwards. Idle where nobody is free.
     ///
-    /// Stop tells why he can't bid, and nothing is changed then: Bids where the shard has used up its bids, else Stuck
-    /// where he has no arc, else Ceiling where he would bid more than the greatest price. `rows` are the rows of the
-    /// problem that the shard was made for; `eps` is in scaled costs.
+    /// Stop says why the person can't bid, and nothing is changed then. The first of these causes decides:
+    ///
+    /// - Bids: the shard has used up its bids.
+    /// - Stuck: the person has no arc.
+    /// - Ceiling: the bid would be above the greatest price.
+    ///
+    /// `rows` are the rows of the problem that the shard was made for; `eps` is in scaled costs.
     ///
     /// Takes one pass over the person's row, O(arcs of the person) time and no memory.
     #[tactic(auto, using(crate::proofs::Rise::shape_bid, crate::proofs::Rise::shape_same))]
@@ -73,13 +77,13 @@ impl PersonShard {
         self.bid_with(rows, eps, found)
     }
 
-    /// The same bid as [`Self::next_bid`] makes, found sooner by what is kept beside the shard.
+    /// The same bid as [`Self::next_bid`] makes, found sooner by a `Bidder` beside the shard.
     ///
-    /// `bidder` is of these rows, and no copy has fallen since it was made: what is made for them stays such in each
-    /// call of the shard, since copies never fall, and where a world of later prices begins.
+    /// `bidder` is of these rows, and no copy has fallen since it was made. It stays right in each call of the shard,
+    /// since copies never fall, and where a world of later prices begins.
     ///
-    /// Takes a pass over a short row, or for most bids of a longer one over a short list, and else as long as
-    /// [`Self::next_bid`], where a row of more than 256 arcs is looked at in part; no memory.
+    /// Takes a pass over a short row. For a longer row most bids take a pass over a short list, and the others as long
+    /// as [`Self::next_bid`]. Of a row of more than 256 arcs these scan a part. No memory.
     #[inline(always)]
     pub fn next_bid_by(&mut self, rows: &Rows, eps: i64, bidder: &mut Bidder) -> Bidding
         requires rows { IsMadeFor rows.now self.old }
@@ -105,7 +109,7 @@ impl PersonShard {
         self.bid_with(rows, eps, found)
     }
 
-    /// The person that has been free longest.
+    /// The person who has been free longest.
     #[inline]
     fn first(&self) -> Option<u32>
         ensures some { IfSome result (λ i. (self.now.idle ≢ []) × (i ≡ first_idle self.now) × (i < length self.now.states)) }

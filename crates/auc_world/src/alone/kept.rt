@@ -1,4 +1,4 @@
-//! What is kept of a phase that is played by itself, and the steps that its rounds are made of.
+//! The state of a phase with one shard of each kind, and the steps of its rounds.
 
 ghost use Rattle.std.specs.Prelude.{ℕ, ℤ, ◌≡◌, ◌<◌, ◌≤◌, ◌+◌, ◌*◌, [], ◌∷◌, ◌++◌, None, Some, ◌-◌, length, map, replicate, drop, slice_index_or, slice_set, IsTrue, ◌↔◌, IfOk, IfSome, IfNone};
 ghost use Rattle.std.specs.VecDeque.{deque_capacity};
@@ -18,21 +18,21 @@ use std::alloc::{AllocError, Global};
 use std::collections::VecDeque;
 use std::marker::Model;
 
-/// What is kept of a phase with one shard of each kind, between two rounds or within one.
+/// The state of a phase with one shard of each kind, between two rounds or within one.
 #[derive(Drop)]
 pub(crate) struct AloneWorld {
     persons: u32,
-    // By object, the price that the persons have heard of.
+    // By object, the price that the persons have heard last.
     copies: Vec<i64>,
     // By object.
     lots: Vec<Lot>,
-    // What waits for the persons, the earliest first.
+    // The letters that wait for the persons, the earliest first.
     told: VecDeque<Told>,
-    // Who has been free longest first.
+    // The free persons, the one who has been free longest first.
     idle: VecDeque<u32>,
-    // How many are left.
+    // The number of bids left.
     bids: u64,
-    // How many objects were sold.
+    // The number of objects sold.
     count: u32,
 }
 
@@ -74,8 +74,8 @@ fn all_persons(alloc: Global, persons: u32) -> Result<VecDeque<u32>, AllocError>
 }
 
 impl AloneWorld {
-    /// What a phase begins with: nobody has anything, and everybody is free. Takes O(persons + objects) time and
-    /// memory; no round takes any.
+    /// The state at the start of a phase: nobody has an object, and each person is free. Takes O(persons + objects)
+    /// time and memory; no round takes any.
     ///
     /// # Errors
     ///
@@ -99,7 +99,7 @@ impl AloneWorld {
         })
     }
 
-    /// Whether everybody has an object.
+    /// Whether each person has an object.
     #[inline(always)]
     pub(crate) fn is_done(&self) -> bool
         ensures { IsTrue result ↔ (self.now.persons ≤ self.now.count) }
@@ -123,7 +123,7 @@ impl AloneWorld {
         self.copies.as_slice()
     }
 
-    /// The person who has been free longest, if anybody is free. He isn't any more.
+    /// Takes out the person who has been free longest, if anybody is free.
     #[inline(always)]
     pub(crate) fn next_free(&mut self) -> Option<u32>
         ensures some { IfSome result (λ i. self.old.idle ≡ i ∷ drop 1 self.old.idle) }
@@ -133,7 +133,7 @@ impl AloneWorld {
         self.idle.pop_front()
     }
 
-    /// The first of what waits for the persons, if something does. It waits no longer.
+    /// Takes out the first letter to the persons, if one waits.
     #[inline(always)]
     pub(crate) fn next_told(&mut self) -> Option<Told>
         ensures some { IfSome result (λ t. self.old.told ≡ t ∷ drop 1 self.old.told) }
@@ -143,7 +143,7 @@ impl AloneWorld {
         self.told.pop_front()
     }
 
-    /// One thing more waits for the persons.
+    /// Appends a letter to the persons.
     #[inline(always)]
     fn tell(&mut self, told: Told)
         requires room { length self.old.told < 4 * self.old.persons }
@@ -161,7 +161,7 @@ impl AloneWorld {
         self.lots[object as usize].price
     }
 
-    /// Who holds an object, if anybody does.
+    /// The holder of an object, if there is one.
     #[inline(always)]
     fn holder(&self, object: u32) -> Option<Held>
         requires { object < length self.now.prices }
@@ -185,7 +185,7 @@ impl AloneWorld {
         };
     }
 
-    /// An object more was sold.
+    /// Counts one more object that was sold.
     #[inline(always)]
     fn count_one(&mut self)
         requires { self.old.count < self.old.persons }
@@ -194,7 +194,7 @@ impl AloneWorld {
         self.count += 1;
     }
 
-    /// A bid less is left.
+    /// Counts one bid less that is left.
     #[inline(always)]
     fn use_bid(&mut self)
         requires { 0 < self.old.bids }
@@ -203,7 +203,8 @@ impl AloneWorld {
         self.bids -= 1;
     }
 
-    /// Sells an object. Who held it is free by it, and is told so before the award.
+    /// Sells an object. The holder before, if there is one, is free then, and the letter of that comes before the
+    /// award.
     #[inline(always)]
     fn sell(&mut self, object: u32, price: i64, held: Held)
         requires object { object < length self.old.prices }
@@ -260,7 +261,7 @@ impl AloneWorld {
         }
     }
 
-    /// The persons hear what was told.
+    /// The persons take a letter.
     #[inline(always)]
     pub(crate) fn note(&mut self, told: Told)
         requires object { told.object < length self.old.copies }
@@ -273,7 +274,7 @@ impl AloneWorld {
         }
     }
 
-    /// Who holds each object, if anybody does, and the prices. Takes O(objects) time and memory.
+    /// The holder of each object, if there is one, and the prices. Takes O(objects) time and memory.
     ///
     /// # Errors
     ///

@@ -6,7 +6,7 @@ ghost use Rattle.auc_world.specs.Lots.{holder_in, price_in};
 use crate::alone::told::NOBODY;
 use auc_letters::Held;
 
-/// The price of an object, in scaled costs, and who holds it by which arc.
+/// The price of an object, in scaled costs, its holder, and the holder's arc.
 #[derive(Clone, Copy)]
 pub(crate) struct Lot {
     pub(crate) price: i64,

@@ -1,4 +1,4 @@
-//! A phase, played by itself from its beginning to its end.
+//! A phase with one shard of each kind, played from its beginning to its end.
 
 ghost use Rattle.std.specs.Prelude.{◌≡◌, IfOk};
 ghost use Rattle.auc_letters.specs.Price.{IsEps};
@@ -18,7 +18,7 @@ use auc_persons::Bidder;
 use auc_phases::Limits;
 use std::alloc::{AllocError, Global};
 
-/// Plays a phase by itself, which may be: in whole rounds; what its bids are found by outlasts it where all is sold.
+/// Plays a phase that may be played alone, in whole rounds. Where all is sold, the bidder is kept for the next phase.
 ///
 /// Takes 68 bytes of memory for each person and 24 for each object, and the holders and prices that it leaves.
 ///

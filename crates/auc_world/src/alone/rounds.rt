@@ -1,4 +1,4 @@
-//! Rounds of a phase that is played by itself.
+//! The rounds of a phase with one shard of each kind.
 
 ghost use Rattle.std.specs.Prelude.{◌≡◌, ◌≢◌, ◌<◌, ◌≤◌, [], IfSome, IfNone};
 ghost use Rattle.auc_answers.specs.Answers.{why_of};
@@ -16,12 +16,12 @@ use auc_persons::Bidder;
 #[derive(Drop)]
 pub(crate) struct Played {
     pub(crate) world: AloneWorld,
-    /// None where everybody has an object.
+    /// None where each person has an object.
     pub(crate) stopped: Option<Reason>,
 }
 
 impl AloneWorld {
-    /// The person who has been free longest bids, if anybody is free, and his bid is answered; or a limit stops the
+    /// The person who has been free longest bids, if anybody is free, and the bid is answered; or a limit stops the
     /// phase.
     #[inline(always)]
     fn trade(&mut self, task: &Task, bidder: &mut Bidder) -> Option<Reason>
@@ -41,7 +41,7 @@ impl AloneWorld {
             return Some(Reason::Bids);
         }
         let Some(bid) = bidder.bid(task.rows, task.eps, person, self.copies()) else {
-            // Nobody is without an arc.
+            // Each person has an arc.
             return Some(Reason::Bids);
         };
         if bid.amount > MOST_PRICE {
@@ -51,7 +51,7 @@ impl AloneWorld {
         None
     }
 
-    /// The persons hear the first of what waits for them.
+    /// The persons take the first letter that waits for them.
     #[inline(always)]
     fn hear(&mut self, task: &Task)
         requires halfway { IsHalfway task.now self.old }
@@ -65,8 +65,8 @@ impl AloneWorld {
         }
     }
 
-    /// Takes rounds until everybody has an object, or a limit stops the phase.
-    // By value, so that what is kept needs no place in memory that others could know of.
+    /// Takes rounds until each person has an object, or a limit stops the phase.
+    // By value, so that the state needs no place in memory that other code could reach.
     pub(crate) fn run(self, task: &Task, bidder: &mut Bidder) -> Played
         requires going { IsGoing task.now self }
         requires kept { Kept task.now.table self.copies bidder.old }

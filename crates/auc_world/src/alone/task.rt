@@ -1,4 +1,4 @@
-//! What a phase is given that is played by itself.
+//! The input of a phase with one shard of each kind.
 
 ghost use Rattle.std.specs.Prelude.{◌≡◌, ◌↔◌, IsTrue};
 ghost use Rattle.auc_letters.specs.Price.{IsEps};
@@ -11,7 +11,7 @@ use auc_graph::Rows;
 use auc_phases::Limits;
 use std::marker::Model;
 
-/// What a phase is given that is played by itself. Prices and `eps` are in scaled costs, the prices by object.
+/// The input of a phase that is played alone. Prices and `eps` are in scaled costs, the prices by object.
 #[derive(Drop)]
 pub(crate) struct Task<'a> {
     pub(crate) rows: &'a Rows,
@@ -28,8 +28,11 @@ impl<'a> Model for Task<'a> {
     ghost view = { λ t. record { table = t.rows.now; limits = t.limits.now; prices = t.prices.now; eps = t.eps } };
 }
 
-/// Whether a phase may be played by itself: there is one shard of each kind, as many letters may wait as are usual, and
-/// no lane can have had as many posts as it may, since a bid is answered by two letters at most.
+/// Whether the machine with one shard of each kind may stand in for a `World`, which is so where:
+///
+/// - there is one shard of each kind;
+/// - as many letters may wait as is usual;
+/// - the bid limit can't exhaust a lane, since a bid is answered by two letters at most.
 pub(crate) fn may_play_alone(limits: &Limits) -> bool
     ensures { IsTrue result → MayPlayAlone limits.now }
 {
@@ -47,7 +50,7 @@ impl<'a> Task<'a> {
         ensures is { result ≡ record { table = rows.now; limits = limits.now; prices = prices.now; eps = eps } }
         ensures given { IsGiven result }
     {
-        // Read here, so that the proof knows what all rows keep.
+        // Read here, so that the proof knows the invariant of the rows.
         let _ = rows.persons();
         Task {
             rows,

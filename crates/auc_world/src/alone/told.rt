@@ -1,15 +1,15 @@
-//! What waits for the persons: the price of an object, and who is free again by it.
+//! A letter that waits for the persons: the price of an object, and the person whom it frees.
 
-/// Stands for nobody who is free again.
+/// Marks a letter that frees nobody.
 pub(crate) const NOBODY: u32 = 4_294_967_295;
 
-/// What the only shard of the objects has told the only one of the persons, and waits there, in 16 bytes: an award
-/// where nobody is free by it. Who has won an object isn't told, since nothing that is kept here changes for him.
+/// A letter of the only shard of the objects to the only one of the persons, in 16 bytes; an award where it frees
+/// nobody. It doesn't name the winner of an object, since nothing of the winner's changes here by the letter.
 #[derive(Clone, Copy)]
 pub(crate) struct Told {
     /// The price of the object, in scaled costs.
     pub(crate) price: i64,
     pub(crate) object: u32,
-    /// Who is free again: his bid was refused, or another has the object now.
+    /// The person who is free again: the bid was refused, or another person has the object now.
     pub(crate) freed: u32,
 }

@@ -30,7 +30,7 @@ impl PostOffice {
         }
     }
 
-    /// What a take from a box gives.
+    /// The result of a take from a box.
     #[inline]
     fn taken(&mut self, mail: MailName, at: u32) -> Taken<Letter>
         requires { HasBox (named self.old.mails mail) at }

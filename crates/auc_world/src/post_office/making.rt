@@ -1,4 +1,4 @@
-//! What a new post office is made of.
+//! The parts of a new post office.
 
 ghost use Rattle.std.specs.Prelude.{◌≡◌, ◌≤◌, ◌+◌, ◌*◌, [], length, All, IfOk};
 ghost use Rattle.auc_mail.specs.Mail.{empty_mail};
@@ -8,7 +8,7 @@ use auc_letters::Letter;
 use auc_mail::MailPool;
 use std::alloc::{AllocError, Global};
 
-/// Empty outboxes, so many.
+/// This many empty outboxes.
 pub(crate) fn new_outboxes(alloc: Global, count: u32) -> Result<Vec<Outbox>, AllocError>
     ensures many { IfOk result (λ v. length v.items ≡ count) }
     ensures each { IfOk result (λ v. All (λ x. x ≡ []) v.items) }
@@ -34,7 +34,7 @@ pub(crate) fn new_mail(
     ensures { IfOk result (λ mail. mail ≡ empty_mail boxes (2 * shards + 1) nodes posts) }
 {
     let blank = Letter::First { object: 0 };
-    // All numbers are in range, so that memory alone can fail.
+    // All numbers are in range, so only memory can be refused.
     match MailPool::make(alloc, boxes, 2 * shards + 1, nodes, posts, blank) {
         Ok(mail) => Ok(mail),
         Err(_) => Err(AllocError),

@@ -1,4 +1,4 @@
-//! The letters that a shard has still to post.
+//! The letters that a shard has yet to post.
 
 ghost use Rattle.std.specs.Prelude.{◌≡◌, ◌≢◌, [], ◌∷◌, drop, IsTrue, ◌↔◌, IfSome, IfNone};
 
@@ -6,8 +6,7 @@ use arrayvec::ArrayVec;
 use auc_letters::Out;
 use std::marker::Model;
 
-/// The letters that a shard has still to post, the next one first: at most four, which is room for the answers to a
-/// bid.
+/// The letters that a shard has yet to post, the next one first: at most four, which is room for the answers to a bid.
 ///
 /// Contracts see them as a list.
 #[derive(Drop)]
@@ -54,13 +53,13 @@ impl Outbox {
         Some(self.letters[0])
     }
 
-    /// The letter to be posted next leaves.
+    /// Removes the letter to be posted next.
     #[inline]
     pub(crate) fn drop_first(&mut self)
         requires { self.old ≢ [] }
         ensures { self.new ≡ drop 1 self.old }
     {
-        // Of two letters or one, which is all that an answer has, the last may take the first's place; that is faster.
+        // Of at most two letters, which is all that an answer has, the last may take the first's place; that is faster.
         let _ = if self.letters.len() <= 2 {
             self.letters.swap_remove(0)
         } else {
@@ -77,7 +76,7 @@ impl Outbox {
         self.letters.push(out);
     }
 
-    /// These letters, in place of all that were there.
+    /// Puts these letters in place of all that it has.
     #[inline]
     pub(crate) fn replace(&mut self, letters: ArrayVec<Out, 4>)
         ensures { self.new ≡ letters.items }

@@ -12,12 +12,12 @@ use auc_letters::{Out, To, Why};
 use auc_mail::PostRefused;
 use auc_phases::reason_to_stop;
 
-/// What comes of a post of the first letter of an outbox.
+/// The outcome of a post of the first letter of an outbox.
 #[derive(Clone, Copy)]
 pub(crate) enum Posted {
     /// There was no letter.
     Nothing,
-    /// The letter has left the outbox: it waits in its mail, or was refused there and isn't missed.
+    /// The letter has left the outbox: it waits in its mail, or was refused there and may be dropped.
     Left,
     /// It was refused and stays in the outbox, so the phase has to end, for this reason.
     Stays { why: Why },
@@ -55,7 +55,7 @@ impl PostOffice {
         }
     }
 
-    /// Posts a letter. Why it has to stay in its outbox, where it is refused and does.
+    /// Posts a letter. Returns why it has to stay in its outbox, where it is refused and has to.
     #[inline]
     fn try_post(&mut self, sender: u32, out: Out) -> Option<Why>
         requires { Fits (mail_for self.old.mails out) (post_of sender out) }

@@ -1,4 +1,4 @@
-//! Bidding: a shard of the persons asks its person that has been free longest for a bid.
+//! Bidding: a shard of the persons asks the person who has been free longest for a bid.
 
 ghost use Rattle.std.specs.Prelude.{◌≡◌, ◌<◌, ◌↔◌, true, [], ◌∷◌, slice_set, IsTrue};
 ghost use Rattle.auc_model.specs.Bidding.{BidTurn};
@@ -14,7 +14,7 @@ use auc_model::TurnReply;
 use auc_persons::Bidding;
 
 impl<'a> World<'a> {
-    /// Whether a shard of the persons may bid: it is there, its outbox is empty, and it has made no Stop.
+    /// Whether a shard of the persons may bid: it exists, its outbox is empty, and it has made no Stop.
     #[inline]
     fn may_bid(&self, shard: u32) -> bool
         ensures is { IsTrue result ↔ MayAskForBid self.now shard }
@@ -38,7 +38,7 @@ impl<'a> World<'a> {
         persons.next_bid_by(rows, eps, bidder)
     }
 
-    /// A shard of the persons has made a Stop.
+    /// Notes that a shard of the persons has made a Stop.
     #[inline]
     fn note_stop(&mut self, shard: u32)
         requires { shard < self.old.shards }
@@ -47,7 +47,7 @@ impl<'a> World<'a> {
         self.stopped[shard as usize] = true;
     }
 
-    /// A shard of the persons puts its next bid, or why there is none, into its outbox.
+    /// A shard of the persons puts its next bid, or the reason why there is none, into its outbox.
     #[inline]
     pub(crate) fn bid(&mut self, shard: u32) -> TurnReply
         ensures turn { BidTurn (phase self.old) (world_of self.old) shard result (world_of self.new) }
@@ -77,7 +77,7 @@ impl<'a> World<'a> {
         }
     }
 
-    /// A shard of the persons bids and posts, by two turns. Whether anything moved.
+    /// A shard of the persons bids and posts, by two turns. Returns whether anything moved.
     pub(crate) fn bid_and_post(&mut self, shard: u32) -> bool
         ensures plays { Plays (phase self.old) (world_of self.old) (Turn.Bid shard ∷ Turn.PersonPost shard ∷ [])
             result (world_of self.new) }

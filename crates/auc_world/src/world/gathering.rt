@@ -1,4 +1,4 @@
-//! What a phase leaves: who holds each object, and its price.
+//! The result of a phase: the holder of each object, and its price.
 
 ghost use Rattle.std.specs.Prelude.{◌<◌, All, IfOk};
 ghost use Rattle.auc_graph.specs.Price.{IsPrice};
@@ -9,7 +9,7 @@ use auc_answers::Gathered;
 use std::alloc::{AllocError, Global};
 
 impl<'a> World<'a> {
-    /// Who holds each object, if anybody does, and the true prices, as they stand. Takes O(objects) time and memory.
+    /// The present holder of each object, if there is one, and the true prices. Takes O(objects) time and memory.
     ///
     /// # Errors
     ///

@@ -20,7 +20,7 @@ pub(crate) fn has_moved(reply: TurnReply) -> bool
 }
 
 impl<'a> World<'a> {
-    /// Each shard of the persons bids and posts. Whether anything moved.
+    /// Each shard of the persons bids and posts. Returns whether anything moved.
     fn bid_all(&mut self) -> bool
         ensures plays { Plays (phase self.old) (world_of self.old) (bids_of self.old.shards) result (world_of self.new) }
         ensures phase { phase self.new ≡ phase self.old }
@@ -33,7 +33,7 @@ impl<'a> World<'a> {
         moved
     }
 
-    /// Each shard of the objects takes a bid and posts its answers. Whether anything moved.
+    /// Each shard of the objects takes a bid and posts its answers. Returns whether anything moved.
     fn answer_all(&mut self) -> bool
         ensures plays { Plays (phase self.old) (world_of self.old) (answers_of self.old.shards) result (world_of self.new) }
         ensures phase { phase self.new ≡ phase self.old }
@@ -46,7 +46,7 @@ impl<'a> World<'a> {
         moved
     }
 
-    /// Each shard of the persons hears a letter. Whether anything moved.
+    /// Each shard of the persons hears a letter. Returns whether anything moved.
     fn hear_all(&mut self) -> bool
         ensures plays { Plays (phase self.old) (world_of self.old) (hearings_of self.old.shards) result (world_of self.new) }
         ensures phase { phase self.new ≡ phase self.old }
@@ -60,7 +60,7 @@ impl<'a> World<'a> {
     }
 
     /// One round: each shard of the persons bids, each of the objects answers, each of the persons hears, and the hub
-    /// counts. Whether anything moved.
+    /// counts. Returns whether anything moved.
     #[inline]
     fn round(&mut self) -> bool
         ensures plays { Plays (phase self.old) (world_of self.old) (round_of self.old.shards) result (world_of self.new) }
@@ -73,7 +73,7 @@ impl<'a> World<'a> {
         bids | answers | hearings | count
     }
 
-    /// Takes rounds until the phase has ended, and tells how; None where a round moved nothing.
+    /// Takes rounds until the phase has ended, and returns how; None where a round moved nothing.
     ///
     /// Each turn that moves uses up a bid, a Stop or a letter, or sets the end: so the rounds end.
     pub(crate) fn run(&mut self) -> Option<End>

@@ -1,4 +1,4 @@
-//! Selling: a shard of the objects deals with a bid, or tells a price.
+//! Selling: a shard of the objects answers a bid, or sends a price.
 
 ghost use Rattle.std.specs.Prelude.{◌≡◌, ◌<◌, ◌+◌, [], ◌∷◌, length, slice_set, All, IfSome, IfNone, IsTrue, ◌↔◌};
 ghost use Rattle.auc_letters.specs.Award.{answers};
@@ -28,8 +28,8 @@ impl<'a> World<'a> {
         shard < self.shards && self.post.has_posted_all(self.shards + shard)
     }
 
-    /// The bid that a letter to a shard of the objects is, where it fits: the object is the shard's, and the amount is
-    /// in range.
+    /// The bid in a letter to a shard of the objects, where it fits: the object is the shard's, and the amount is in
+    /// range.
     #[inline]
     fn bid_in(&self, shard: u32, letter: Letter) -> Option<Bid>
         requires { shard < self.now.shards }
@@ -40,7 +40,7 @@ impl<'a> World<'a> {
         objects.bid_in(letter)
     }
 
-    /// Deals with a bid on an object of a shard.
+    /// Answers a bid on an object of a shard.
     #[inline]
     fn answer(&mut self, shard: u32, offer: Bid) -> Answers
         requires known { shard < self.old.shards }
@@ -104,7 +104,7 @@ impl<'a> World<'a> {
         TurnReply::Moved
     }
 
-    /// A shard of the objects takes a bid and posts its answers, by three turns. Whether anything moved.
+    /// A shard of the objects takes a bid and posts its answers, by three turns. Returns whether anything moved.
     pub(crate) fn take_and_post(&mut self, shard: u32) -> bool
         ensures plays { Plays (phase self.old) (world_of self.old)
             (Turn.ObjectTake shard ∷ Turn.ObjectPost shard ∷ Turn.ObjectPost shard ∷ []) result (world_of self.new) }

@@ -10,10 +10,11 @@ use auc_model::{Turn, TurnReply};
 impl<'a> World<'a> {
     /// Takes one turn. O(arcs of the person) for a bid, and O(1) beside it and the mail's own calls; no memory.
     ///
-    /// Nothing is answered where nothing can move: there is no such shard, box or object; the outbox isn't empty, or
-    /// is; no letter waits; nobody is free; the box is closed. Then the world is as it was.
+    /// The reply is `Nothing` where nothing can move, for one of these causes. There is no such shard, box or object;
+    /// the outbox isn't empty, or is; no letter waits; nobody is free; the box is closed. Then the world is unchanged.
     ///
-    /// What nobody holds has the price that the world was made with: clause `unheld`, turn by turn.
+    /// The price of an object that nobody holds is the one with which the world was made: clause `unheld`, turn by
+    /// turn.
     pub fn turn(&mut self, turn: Turn) -> TurnReply
         ensures turn { Turned (phase self.old) (world_of self.old) turn result (world_of self.new) }
         ensures phase { SamePhase self.old self.new }

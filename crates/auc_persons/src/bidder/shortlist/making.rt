@@ -1,4 +1,4 @@
-//! How a list is made: which arcs it takes, and how far it reaches.
+//! How a candidate list is made: which arcs it takes, and how high its bound is.
 
 ghost use Rattle.std.specs.Prelude.{true, false, ◌≡◌, ◌+◌, ◌<◌, ◌≤◌, ◌^◌, ◌<ℤ◌, ◌≤ℤ◌, [], pos, neg_ℤ, length, take};
 ghost use Rattle.auc_persons.specs.Candidates.{Gathered, Keeps};
@@ -8,11 +8,11 @@ ghost use Rattle.auc_persons.specs.Priced.{value_in};
 use crate::bidder::priced_row::PricedRow;
 use crate::bidder::shortlist::Shortlist;
 
-/// With fewer arcs the next list is to hold more.
+/// With fewer arcs the next list should have more.
 const FEW: u32 = 8;
-/// With more arcs the next list is to hold fewer.
+/// With more arcs the next list should have fewer.
 const MANY: u32 = 14;
-/// How far above the second a bound lies at most.
+/// The greatest distance of a bound above the second-best value.
 const MOST_DELTA: i64 = 1 << 60;
 /// A number from 1 to the greatest distance of a bound.
 pub(crate) fn delta_within(delta: i64) -> i64
@@ -29,7 +29,7 @@ pub(crate) fn delta_within(delta: i64) -> i64
 }
 
 impl Shortlist {
-    /// No arc, and this bound.
+    /// Empties the list, with this bound.
     #[inline]
     pub(crate) fn begin(&mut self, bound: i64)
         requires { bound ≤ℤ pos (2 ^ 62) }
@@ -40,8 +40,8 @@ impl Shortlist {
         self.rises = true;
     }
 
-    /// Takes the arc at a place of a row where it is below a bound, where it has those before; no arc at all where they
-    /// are too many.
+    /// Appends the arc at a place of a row where it is below a bound; the list has those before. No arc is kept at all
+    /// where they are too many.
     #[inline(always)]
     fn take_at(&mut self, row: PricedRow, bound: i64, place: usize) -> bool
         requires within { place < length row.arcs.now }
@@ -61,9 +61,9 @@ impl Shortlist {
         true
     }
 
-    /// Takes the arcs below a bound from one place of a row to another, where it has those before; no arc at all where
-    /// they are too many.
-    // Apart: docs/CODEGEN.md, "Loops of their own".
+    /// Appends the arcs below a bound from one place of a row to another; the list has those before. No arc is kept at
+    /// all where they are too many.
+    // Not inlined: docs/CODEGEN.md, "Loops of their own".
     #[inline(never)]
     pub(crate) fn take_part(&mut self, row: PricedRow, bound: i64, from: usize, to: usize) -> bool
         requires order { from ≤ to }
@@ -75,7 +75,7 @@ impl Shortlist {
         ensures person { self.new.person ≡ self.old.person }
     {
         let pairs = (to - from) / 2;
-        // Two arcs a turn: most come to no more than a test, and a turn by itself costs half as much as that.
+        // Two arcs an iteration: most need one test only, and an iteration by itself costs half as much as that.
         for pair in 0..pairs {
             let place = from + 2 * pair;
             if !self.take_at(row, bound, place) {
@@ -102,7 +102,8 @@ impl Shortlist {
         self.take_part(row, bound, 0, row.arcs.len())
     }
 
-    /// Sets how far above the second the next bound is to lie, by how many arcs this one has taken.
+    /// Sets how far the next bound should be above the second-best value, by the number of arcs that this list has
+    /// taken.
     pub(crate) fn adapt(&mut self, fitted: bool)
         ensures { self.new ≡ self.old }
     {
@@ -116,7 +117,7 @@ impl Shortlist {
         }
     }
 
-    /// The bound of a list that reaches above this second.
+    /// The bound of a list made for this second-best value.
     #[inline]
     pub(crate) fn bound_above(&self, second: i64) -> i64
         requires { IsValue second }
@@ -126,7 +127,7 @@ impl Shortlist {
         second + self.delta
     }
 
-    /// Makes a list that reaches above this second.
+    /// Makes the list anew, with a bound above this second-best value.
     pub(crate) fn remake(&mut self, row: PricedRow, second: i64)
         requires second { IsValue second }
         ensures keeps { Keeps (value_in row.entry) row.entry.arcs.now self.new.arcs self.new.bound }

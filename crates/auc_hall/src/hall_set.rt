@@ -10,8 +10,12 @@ use crate::search::Reached;
 use auc_graph::{Indices, RowArc, Rows};
 use std::alloc::{AllocError, Global};
 
-/// The places of the flags that are set, in rising order.
-fn places_of(alloc: Global, flags: &[bool]) -> Result<Vec<u32>, AllocError>
+/// The places of the flags that are set, in rising order. O(flags) time, and memory of what is answered.
+///
+/// # Errors
+///
+/// Only where memory was refused.
+pub fn places_of(alloc: Global, flags: &[bool]) -> Result<Vec<u32>, AllocError>
     requires { length flags.now < 2 ^ 32 }
     ensures { IfOk result (λ v. v.items ≡ places 0 flags.now) }
 {

@@ -12,7 +12,7 @@ use Rattle.auc_hall.specs.Assignment.{number_of, IsRowAssignment}
 use Rattle.auc_hall.specs.HallSet.{IsRowHallSet}
 use Rattle.auc_hall.specs.Partial.{pick}
 use Rattle.auc_hall.specs.Matched.{IsPlaced, IsMatched}
-use Rattle.auc_hall.specs.Search.{WasSeen, IsTrail, AreWalked, IsSearch}
+use Rattle.auc_hall.specs.Search.{WasSeen, AreKnown, AreSeen, IsTrail, AreWalked, IsSearch}
 use Rattle.auc_hall.specs.Chosen.{places, chosen, AreReached, ArePersons}
 use Rattle.auc_hall.proofs.QueueLaws.{blank, entry, get_kept, get_pushed, get_cases, get_front}
 use Rattle.auc_hall.proofs.FlagLaws.{count_set, count_none, seen_kept, seen_within, no_flag, place_only, place_all, length-places, places_rise}
@@ -73,9 +73,9 @@ no_flags flags persons is =
     }
 
 -- The persons who were reached know the objects that were seen, which are one fewer.
-pub is_hall_set : (t : Table) (choice : List (Option RowArc)) (holder : List (Option ℕ)) (queue : List Reached) (seen flags : List Bool) → IsSearch t choice holder queue seen → AreWalked t queue seen (length queue) → AreReached queue (length t.rows) flags
+pub is_hall_set : (t : Table) (queue : List Reached) (seen flags : List Bool) → AreKnown t queue → AreSeen t queue seen → AreWalked t queue seen (length queue) → AreReached queue (length t.rows) flags
     → IsRowHallSet t (places 0 flags) (places 0 seen)
-is_hall_set t choice holder queue seen flags s walked r =
+is_hall_set t queue seen flags known marks walked r =
     record {
       within = λ i c.
           let x = place_only 0 flags i c in
@@ -91,10 +91,10 @@ is_hall_set t choice holder queue seen flags s walked r =
           place_all 0 seen k.0.object was j (omega (arith, k.2));
       only = λ j c.
           let x = place_only 0 seen j c in
-          let y = s.marks.behind x.0 x.2 in
-          let from = s.trail.known y.0 y.1 y.2 y.3 in
+          let y = marks.behind x.0 x.2 in
+          let from = known y.0 y.1 y.2 y.3 in
           (from.by.person, place_all 0 flags from.by.person (r.all y.1.parent from.by from.there) from.by.person (omega arith), (y.1.arc, from.own, omega (arith, x.1, y.4)));
-      fewer = omega (arith, length-places 0 flags, length-places 0 seen, s.marks.count, r.count);
+      fewer = omega (arith, length-places 0 flags, length-places 0 seen, marks.count, r.count);
     }
 
 get_chosen : (choice : List (Option RowArc)) → ((i : ℕ) → i < length choice → IsPlaced choice i) → (i : ℕ) (a : RowArc) → slice_get (chosen choice) i ≡ Some a → pick choice i ≡ Some a
@@ -129,6 +129,10 @@ done_more before choice queue person done kept first there starts placed i lt = 
   | inl e ↦ subst (IsPlaced choice) (starts first there ∙ sym e) (placed first there)
   | inr n ↦ kept i (done i (omega (arith, n)))
 ]
+
+-- a search knows its persons, by the queue as it is named
+pub search_same : (t : Table) (choice : List (Option RowArc)) (holder : List (Option ℕ)) (queue named : List Reached) (seen : List Bool) → named ≡ queue → IsSearch t choice holder queue seen → IsSearch t choice holder named seen
+search_same t choice holder queue named seen e s = subst (λ (q : List Reached). IsSearch t choice holder q seen) (sym e) s
 
 pub walked_same : (t : Table) (queue named : List Reached) (seen : List Bool) → named ≡ queue → AreWalked t queue seen (length queue) → AreWalked t named seen (length named)
 walked_same t queue named seen e w = subst (λ (q : List Reached). AreWalked t q seen (length q)) (sym e) w

@@ -1,10 +1,10 @@
--- Membership and ProblemLaws are for the crates above too; the rest is this crate's own.
+-- Membership, FlagLaws and ProblemLaws are for the crates above too; the rest is this crate's own.
 mod Options
 pub mod Membership
 mod MatchedLaws
 mod PlacingLaws
 mod QueueLaws
-mod FlagLaws
+pub mod FlagLaws
 mod ExchangeLaws
 mod CompletionLaws
 mod SearchLaws

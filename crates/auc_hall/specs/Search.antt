@@ -12,10 +12,14 @@ pub record HasArc (t : Table) (queue : List Reached) (at : ℕ) (a : RowArc) : T
   pub there : slice_get queue at ≡ Some by
   pub own : Contains (row_of t by.person) a
 
+-- an arc of an earlier person leads to each person of the queue but the first
+abbrev pub AreKnown : Table → List Reached → Type 0
+AreKnown t queue = (m : ℕ) (e : Reached) → slice_get queue m ≡ Some e → 0 < m → HasArc t queue e.parent e.arc
+
 -- each person of the queue but the first holds an object to which an arc of an earlier one leads
 pub record IsTrail (t : Table) (holder : List (Option ℕ)) (queue : List Reached) : Type 0 where
   pub before : (m : ℕ) (e : Reached) → slice_get queue m ≡ Some e → 0 < m → e.parent < m
-  pub known : (m : ℕ) (e : Reached) → slice_get queue m ≡ Some e → 0 < m → HasArc t queue e.parent e.arc
+  pub known : AreKnown t queue
   pub held : (m : ℕ) (e : Reached) → slice_get queue m ≡ Some e → 0 < m → holder_of holder e.arc.object ≡ Some e.person
   pub within : (m : ℕ) (e : Reached) → slice_get queue m ≡ Some e → e.person < length t.rows
   pub apart : (m n : ℕ) (e f : Reached) → slice_get queue m ≡ Some e → slice_get queue n ≡ Some f → m < n → e.person ≢ f.person

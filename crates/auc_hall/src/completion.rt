@@ -57,7 +57,7 @@ fn complete_parts(
         }
         match search(rows, choice, holder, seen, looked, &mut queue, person)? {
             None => {
-                return hall_set(alloc, rows, choice, holder, seen, queue.as_slice());
+                return hall_set(alloc, rows, seen, queue.as_slice());
             }
             Some(found) => {
                 exchange(rows, choice, holder, queue.as_slice(), found);

@@ -2,16 +2,20 @@
 
 ghost use Rattle.std.specs.Prelude.{◌≡◌, ◌<◌, ◌^◌, length, IfOk};
 ghost use Rattle.auc_hall.specs.Matching.{IsHall, IsMatching};
-ghost use Rattle.auc_hall.specs.Search.{IsSearch, AreWalked};
+ghost use Rattle.auc_hall.specs.Search.{AreKnown, AreSeen, AreWalked};
 ghost use Rattle.auc_hall.specs.Chosen.{places, AreReached, ArePersons};
 
 use crate::matching::Matching;
 use crate::search::Reached;
-use auc_graph::{Indices, RowArc, Rows};
+use auc_graph::{Indices, Rows};
 use std::alloc::{AllocError, Global};
 
-/// The places of the flags that are set, in rising order.
-fn places_of(alloc: Global, flags: &[bool]) -> Result<Vec<u32>, AllocError>
+/// The places of the flags that are set, in rising order. O(flags) time, and memory of what is answered.
+///
+/// # Errors
+///
+/// Only where memory was refused.
+pub fn places_of(alloc: Global, flags: &[bool]) -> Result<Vec<u32>, AllocError>
     requires { length flags.now < 2 ^ 32 }
     ensures { IfOk result (λ v. v.items ≡ places 0 flags.now) }
 {
@@ -41,12 +45,12 @@ fn reached_flags(alloc: Global, queue: &[Reached], persons: usize) -> Result<Vec
 pub(crate) fn hall_set(
     alloc: Global,
     rows: &Rows,
-    _choice: &[Option<RowArc>],
-    _holder: &[Option<u32>],
     seen: &[bool],
     queue: &[Reached],
 ) -> Result<Matching, AllocError>
-    requires search { IsSearch rows.now _choice.now _holder.now queue.now seen.now }
+    requires persons { ArePersons queue.now (length rows.now.rows) }
+    requires known { AreKnown rows.now queue.now }
+    requires seen { AreSeen rows.now queue.now seen.now }
     requires walked { AreWalked rows.now queue.now seen.now (length queue.now) }
     requires few { length seen.now < 2 ^ 32 }
     ensures matching { IfOk result (IsMatching rows.now) }

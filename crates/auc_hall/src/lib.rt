@@ -23,6 +23,7 @@ mod search;
 
 pub use completion::complete;
 pub use full::has_full_matching;
+pub use hall_set::places_of;
 pub use laws::{
     full_assignments_stay, hall_sets_leave_no_assignment, matchings_hold_of_the_problem,
 };

@@ -1,44 +1,14 @@
 -- Persons who have a flag, and the objects that they know, are a Hall set of the rows where the objects are fewer.
-use Rattle.std.proofs.Common.{◌≡◌, ℕ, zero, suc, ◌+◌, ◌<◌, ◌≤◌, Bool, true, false, List, [], ◌∷◌, length, get_or, refl, subst, ◌∙◌, arith, inl, inr, Contains}
-use Rattle.std.proofs.lemmas.Bool.{both_ways, cases_eq, cases_lt, false≢true}
+use Rattle.std.proofs.Common.{◌≡◌, ℕ, ◌+◌, ◌<◌, ◌≤◌, Bool, false, List, length, get_or, subst, ◌∙◌, arith, inl, inr, Contains}
+use Rattle.std.proofs.lemmas.Bool.{both_ways, cases_eq, cases_lt}
 use Rattle.std.proofs.lemmas.List.{get_or_past}
 use Rattle.std.proofs.lemmas.Option.{slice_get_within}
-use Rattle.auc_graph.specs.Rising.{IsRising}
 use Rattle.auc_hall.specs.Chosen.{places}
 use Rattle.auc_hall.specs.Search.{WasSeen}
-use Rattle.auc_hall.proofs.Membership.{behind, first_or_behind, nothing, place_of}
+use Rattle.auc_hall.proofs.FlagLaws.{place_all, place_only, places_rise}
+use Rattle.auc_hall.proofs.Membership.{place_of}
 use Rattle.auc_rows.specs.Rows.{FlatTable, flat_row_of}
 use Rattle.auc_market.specs.Hall.{AreAdded, AreKnownTo, IsShortHallSet, KnowsShort}
-
--- ---- the places of flags
-
-place_only : (k : ℕ) (flags : List Bool) (i : ℕ) → Contains (places k flags) i → (j : ℕ) × (i ≡ k + j) × WasSeen flags j
-place_only k [] i c = absurd (nothing i c)
-place_only k (true ∷ flags) i c = elim (first_or_behind k (places (k + 1) flags) i c) [
-  | inl e ↦ (0, omega arith, refl)
-  | inr b ↦ (let r = place_only (k + 1) flags i b in (suc r.0, omega (arith, r.1), r.2))
-]
-place_only k (false ∷ flags) i c = let r = place_only (k + 1) flags i c in (suc r.0, omega (arith, r.1), r.2)
-
-place_all : (k : ℕ) (flags : List Bool) (j : ℕ) → WasSeen flags j → (i : ℕ) → i ≡ k + j → Contains (places k flags) i
-place_all k [] j h i e = absurd (false≢true h)
-place_all k (true ∷ flags) zero h i e = (0, omega arith, omega arith)
-place_all k (true ∷ flags) (suc j) h i e = behind k (places (k + 1) flags) i (place_all (k + 1) flags j h i (omega arith))
-place_all k (false ∷ flags) zero h i e = absurd (false≢true h)
-place_all k (false ∷ flags) (suc j) h i e = place_all (k + 1) flags j h i (omega arith)
-
-places_low : (k : ℕ) (flags : List Bool) (p d : ℕ) → p < length (places k flags) → k ≤ get_or (places k flags) p d
-places_low k [] p d lt = absurd (omega arith)
-places_low k (true ∷ flags) zero d lt = omega arith
-places_low k (true ∷ flags) (suc p) d lt = omega (arith, places_low (k + 1) flags p d (omega arith))
-places_low k (false ∷ flags) p d lt = omega (arith, places_low (k + 1) flags p d lt)
-
-places_rise : (k : ℕ) (flags : List Bool) → IsRising (places k flags)
-places_rise k [] i m d lt in_list = absurd (omega arith)
-places_rise k (true ∷ flags) i zero d lt in_list = absurd (omega arith)
-places_rise k (true ∷ flags) zero (suc m) d lt in_list = omega (arith, places_low (k + 1) flags m d (omega arith))
-places_rise k (true ∷ flags) (suc i) (suc m) d lt in_list = places_rise (k + 1) flags i m d (omega arith) (omega arith)
-places_rise k (false ∷ flags) i m d lt in_list = places_rise (k + 1) flags i m d lt in_list
 
 -- ---- the objects that persons with a flag know
 

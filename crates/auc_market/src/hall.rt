@@ -1,11 +1,11 @@
 //! Hall violators: persons who together have arcs to fewer objects than they number, by flags of the persons. Nothing
 //! is proved of who made the flags: the objects are counted.
 
-ghost use Rattle.std.specs.Prelude.{◌≡◌, ◌<◌, ◌^◌, All, length, IfOk, IfSome};
-ghost use Rattle.auc_hall.specs.Chosen.{places};
+ghost use Rattle.std.specs.Prelude.{◌≡◌, All, length, IfOk, IfSome};
 ghost use Rattle.auc_rows.specs.Rows.{IsShort};
 ghost use Rattle.auc_market.specs.Hall.{AreAdded, AreKnownTo, IsShortHallSet};
 
+use auc_hall::places_of;
 use auc_rows::{FlatRows, ShortArc};
 use std::alloc::{AllocError, Global};
 
@@ -38,21 +38,6 @@ fn known_to(alloc: Global, rows: &FlatRows, is_in: &[bool]) -> Result<Vec<bool>,
         }
     }
     Ok(seen)
-}
-
-/// The places of the flags that are set, in rising order.
-fn places_of(alloc: Global, flags: &[bool]) -> Result<Vec<u32>, AllocError>
-    requires { length flags.now < 2 ^ 32 }
-    ensures { IfOk result (λ v. v.items ≡ places 0 flags.now) }
-{
-    let mut out = Vec::new(alloc);
-    for i in 0..flags.len() {
-        if !flags[i] {
-            continue;
-        }
-        out.push(i as u32)?;
-    }
-    Ok(out)
 }
 
 /// The flagged persons, with the objects that they have arcs to. None where these objects are not fewer than the

@@ -1,11 +1,13 @@
-use Rattle.std.proofs.Common.{get_or, None, false, arith, refl, sym, inl, inr, subst, ◌∙◌}
+use Rattle.std.proofs.Common.{get_or, length, None, false, arith, refl, sym, inl, inr, subst, ◌∙◌}
 use Rattle.std.proofs.lemmas.Bool.{cases_eq, both_ways}
 use Rattle.auc_hall.specs.Matched.{IsPlaced}
 use Rattle.auc_hall.specs.Chosen.{chosen}
+use Rattle.auc_hall.specs.Search.{IsSearch}
 use Rattle.auc_hall.specs.Completion.IsGrown.{stays}
 use Rattle.auc_hall.proofs.CompletionLaws.{grown_by, hall_answers}
-use Rattle.auc_hall.proofs.AnswerLaws.{is_assignment, done_more, walked_same}
+use Rattle.auc_hall.proofs.AnswerLaws.{is_assignment, done_more, persons_of, search_same, walked_same}
 use Rattle.auc_hall.proofs.Options.{some_of}
+use Rattle.auc_hall.proofs.completion.complete_parts.Goals.{After-as_slice}
 use Rattle.auc_hall.proofs.completion.complete_parts.Goals as goal
 
 pub loop-person-preserved-then-is_some : goal.loop-person-preserved-then-is_some
@@ -21,6 +23,18 @@ loop-person-preserved-then-is_some c =
       grown = c.loop-person.invariant.grown;
       looked = c.loop-person.invariant.looked;
     }
+
+found : (c : After-as_slice) → IsSearch c.args.rows.now c.loop-person.choice c.loop-person.holder c.as_slice.result.now c.search.new.seen
+found c = search_same c.args.rows.now c.loop-person.choice c.loop-person.holder c.search.new.queue.items c.as_slice.result.now c.search.new.seen c.as_slice.ensures.value c.in_ok-search.ensures.search
+
+pub hall_set-requires-clause-persons : goal.hall_set-requires-clause-persons
+hall_set-requires-clause-persons c = persons_of c.args.rows.now c.loop-person.holder c.as_slice.result.now (length c.args.rows.now.rows) (found c).trail refl
+
+pub hall_set-requires-clause-known : goal.hall_set-requires-clause-known
+hall_set-requires-clause-known c = (found c).trail.known
+
+pub hall_set-requires-clause-seen : goal.hall_set-requires-clause-seen
+hall_set-requires-clause-seen c = (found c).marks
 
 pub hall_set-requires-clause-walked : goal.hall_set-requires-clause-walked
 hall_set-requires-clause-walked c =

@@ -15,7 +15,7 @@ use Rattle.auc_answers.specs.declared.answer.Answer.{Answer}
 use Rattle.auc_answers.specs.declared.answer.Guard.{Guard}
 use Rattle.auc_answers.specs.Claims.{ArePlaceable, BoundFits, GrowsFrom, IsBracketBy, IsChoiceOf, claim_of, picks_of}
 
--- the certificate has a text, the checker finds no fault in it, and so what it says of the problem is true
+-- the certificate has a text, the checker finds no fault in it, and so its claim about the problem is true
 pub record IsCertified (p : Problem) (cert : CertParts) : Type 0 where
   pub spelled : IsSpelled cert
   pub faultless : fault_of p cert ≡ None
@@ -29,7 +29,7 @@ pub record IsLeastCertificate (p : Problem) (cert : CertParts) : Type 0 where
   pub is : cert ≡ CertParts.Optimal cost choice prices
   pub certified : IsCertified p cert
 
--- a certificate that names persons who together know too few objects, and of the objects just those that they know
+-- a certificate of a Hall set, with exactly the objects to which the named persons have arcs
 pub record IsHallCertificate (p : Problem) (cert : CertParts) : Type 0 where
   pub persons : List ℕ
   pub objects : List ℕ
@@ -37,7 +37,7 @@ pub record IsHallCertificate (p : Problem) (cert : CertParts) : Type 0 where
   pub set : IsHallSetOf p persons objects
   pub certified : IsCertified p cert
 
--- a certificate of an assignment and a bound below which none costs
+-- a certificate of a bracket: an assignment, and a lower bound on the cost of every assignment
 pub record IsBracketCertificate (p : Problem) (cert : CertParts) : Type 0 where
   pub reason : Reason
   pub lower : ℤ
@@ -50,7 +50,7 @@ pub record IsBracketCertificate (p : Problem) (cert : CertParts) : Type 0 where
 abbrev pub HasAssignment : Problem → Type 0
 HasAssignment p = (choice : List Arc) × IsAssignment p choice
 
--- the reason that a limit is named by
+-- the cause of a stop that a limit stands for
 abbrev pub why_of : Reason → Why
 why_of Reason.Bids = Why.Bids
 why_of Reason.Ceiling = Why.Ceiling
@@ -58,7 +58,7 @@ why_of Reason.Posts = Why.Posts
 why_of Reason.Trail = Why.Trail
 why_of Reason.Mail = Why.Mail
 
--- what a stop stands for: a limit, or a guard
+-- the limit or the guard that a cause of a stop stands for
 abbrev pub stop_of : Why → Result Reason Guard
 stop_of Why.Bids = Ok Reason.Bids
 stop_of Why.Ceiling = Ok Reason.Ceiling
@@ -76,8 +76,9 @@ IsAnswer p (Answer.Infeasible cert) = IsHallCertificate p cert
 IsAnswer p (Answer.Bracket cert) = IsBracketCertificate p cert
 IsAnswer p (Answer.Broken guard) = ⊥
 
--- The answer to holders and prices that each person has an object: that the holders' arcs cost least, by these prices;
--- or the guard of the checker, just where these arcs are no choice, or the checker refuses what they claim.
+-- The answer where each person has an object, by these holders and prices. It is a certificate that the holders' arcs
+-- cost least at these prices. Otherwise it is the checker's guard, exactly where these arcs are no choice, or the
+-- checker refuses the certificate.
 abbrev pub IsOptimalAnswer : Problem → List (Option Held) → List ℤ → Answer → Type 0
 IsOptimalAnswer p holders prices (Answer.Optimal cert) =
     (choice : List Arc) × IsChoiceOf p holders choice × (cert ≡ claim_of choice prices) × IsCertified p cert
@@ -87,9 +88,9 @@ IsOptimalAnswer p holders prices (Answer.Broken guard) =
     (guard ≡ Guard.Check)
     × ((choice : List Arc) → IsChoiceOf p holders choice → IsCertified p (claim_of choice prices) → ⊥)
 
--- The answer to holders and prices that a limit has left: an assignment that has grown from the holders' arcs, and the
--- bound that these prices give; or that there is none; or the guard of the checker, just where a holder's arc isn't one
--- of his to his object, or somebody holds two, or the bound is too great or too small for 64 bits.
+-- The answer where a limit has stopped the run at these holders and prices. It is a bracket of an assignment grown from
+-- the holders' arcs, with the dual bound of these prices; or a Hall set. Or it is the checker's guard, just where a
+-- holder's arc isn't the person's to its object, or a person holds two objects, or the bound doesn't fit 64 bits.
 abbrev pub IsBracketAnswer : Problem → Reason → List (Option Held) → List ℤ → Answer → Type 0
 IsBracketAnswer p reason holders prices (Answer.Optimal cert) = ⊥
 IsBracketAnswer p reason holders prices (Answer.Infeasible cert) = IsHallCertificate p cert
@@ -98,14 +99,14 @@ IsBracketAnswer p reason holders prices (Answer.Bracket cert) =
     × GrowsFrom p holders (picks_of cert)
 IsBracketAnswer p reason holders prices (Answer.Broken guard) = (guard ≡ Guard.Check) × (ArePlaceable p holders → BoundFits p prices → ⊥)
 
--- a bracket of an assignment that wasn't completed, with the bound that these prices give
+-- a bracket of an assignment that needed no completion, with the dual bound of these prices
 abbrev pub IsBracketOf : Problem → Reason → List ℤ → Answer → Type 0
 IsBracketOf p reason prices (Answer.Optimal cert) = ⊥
 IsBracketOf p reason prices (Answer.Infeasible cert) = ⊥
 IsBracketOf p reason prices (Answer.Bracket cert) = IsBracketBy p reason prices cert × IsCertified p cert
 IsBracketOf p reason prices (Answer.Broken guard) = ⊥
 
--- and where some persons know too few objects
+-- the answer where there is no assignment: a Hall set
 abbrev pub IsInfeasibleAnswer : Problem → Answer → Type 0
 IsInfeasibleAnswer p (Answer.Optimal cert) = ⊥
 IsInfeasibleAnswer p (Answer.Infeasible cert) = IsHallCertificate p cert

@@ -1,4 +1,4 @@
--- Which claims the checker lets pass, and which fault it names otherwise.
+-- Which claims the checker accepts, and which fault it reports otherwise.
 use Rattle.std.specs.Prelude.{◌≡◌, ℕ, ◌+◌, ◌==◌, ◌<◌, Bool, true, false, not, ◌&&◌, ◌||◌, nat_lt, if◌then◌else◌, List, [], ◌∷◌, ◌++◌, length, map, Option, Some, None, Result, Ok, Err, ℤ, pos, ◌+ℤ◌, ◌≤ℤ◌, int_le, nat_eq, slice_index_or}
 use Rattle.std.specs.Option.{option_map}
 use Rattle.std.specs.List.{position, list_all, list_any, range_with_len}
@@ -18,7 +18,7 @@ use Rattle.auc_graph.specs.Dual.{price_at, arc_value, scale_of, dual, is_lower}
 abbrev pub arc_of : ℕ → Pick → Arc
 arc_of person p = record { person = person; object = p.object; cost = p.cost }
 
--- what the person of an arc takes by it
+-- the pick of an arc's person: the arc's object and cost
 abbrev pub pick_of : Arc → Pick
 pick_of a = record { object = a.object; cost = a.cost }
 
@@ -30,18 +30,18 @@ chosen k (p ∷ picks) = arc_of k p ∷ chosen (k + 1) picks
 abbrev pub same_arc : Arc → Arc → Bool
 same_arc a b = (a.person == b.person) && (a.object == b.object) && int_eq a.cost b.cost
 
--- no arc of the problem is this one
+-- this arc is none of the problem's
 abbrev pub is_missing : List Arc → Arc → Bool
 is_missing arcs c = list_all (λ a. not (same_arc c a)) arcs
 
--- the arc is of another person, or c is worse by 1 at most
+-- the chosen arc c beside an arc a: a is of another person, or the value of c is at most 1 above that of a
 abbrev pub is_slack_beside : ℕ → List ℤ → Arc → Arc → Bool
 is_slack_beside s prices c a = not (c.person == a.person) || int_le (arc_value s prices c) (arc_value s prices a +ℤ pos 1)
 
 abbrev pub is_slack_right : ℕ → List ℤ → List Arc → Arc → Bool
 is_slack_right s prices arcs c = list_all (is_slack_beside s prices c) arcs
 
--- the first object that stands among earlier ones, where `earlier` stands before all
+-- the first object of the list that occurs before in it, or in `earlier`
 abbrev pub repeated : List ℕ → List ℕ → Option ℕ
 repeated earlier [] = None
 repeated earlier (j ∷ js) = if list_any (nat_eq j) earlier then Some j else repeated (j ∷ earlier) js
@@ -53,7 +53,7 @@ fault_if b fault = if b then Some fault else None
 abbrev pub is_sized : Problem → List Pick → List ℤ → Bool
 is_sized p choice prices = (length choice == p.persons) && (length prices == p.objects)
 
--- what the tests of a choice find, in their order
+-- the results of the tests of a choice, in their order
 abbrev pub choice_faults : Problem → ℤ → List Pick → List ℤ → List (Option CertRefused)
 choice_faults p cost choice prices =
     fault_if (not (is_sized p choice prices)) WrongSize
@@ -62,24 +62,24 @@ choice_faults p cost choice prices =
     ∷ fault_if (not (int_eq cost (total_cost (chosen 0 choice)))) WrongCost
     ∷ []
 
--- what the test of slackness finds: the first person with a better arc
+-- the result of the slackness test: the first person with an arc that is better than the chosen one by more than 1
 abbrev pub slack_fault : Problem → List Pick → List ℤ → Option CertRefused
 slack_fault p choice prices =
     option_map (λ i. Slack i) (position (λ c. not (is_slack_right (scale_of p) prices p.arcs c)) (chosen 0 choice))
 
--- the objects that are picked
+-- the objects of the picks
 abbrev pub picked : List Pick → List ℕ
 picked choice = map (λ c. c.object) choice
 
--- nobody picks the object, and it has a price
+-- no person picks the object, and its price isn't 0
 abbrev pub is_left_over : List Pick → List ℤ → ℕ → Bool
 is_left_over choice prices j = not (list_any (nat_eq j) (picked choice)) && not (int_eq (price_at prices j) (pos 0))
 
--- what the test of the objects that are left over finds: the first one that has a price
+-- the result of the test of unassigned objects: the first one whose price isn't 0
 abbrev pub left_over_fault : List Pick → List ℤ → Option CertRefused
 left_over_fault choice prices = option_map (λ j. LeftOver j) (position (is_left_over choice prices) (range_with_len 0 (length prices)))
 
--- what the test of the lower bound finds: it is the least cost that the dual bound of the prices allows, or it is wrong
+-- the result of the test of the lower bound, which has to be the least cost that the dual bound of the prices allows
 abbrev pub bound_fault : Problem → ℤ → List ℤ → Option CertRefused
 bound_fault p lower prices = fault_if (not (is_lower (scale_of p) (dual p prices) lower)) WrongBound
 
@@ -89,24 +89,25 @@ are_below n numbers = list_all (λ k. nat_lt k n) numbers
 abbrev pub is_listed : List ℕ → ℕ → Bool
 is_listed numbers k = list_any (nat_eq k) numbers
 
--- the arc is of a person who is not listed, or leads to a listed object
+-- the arc is of an unlisted person, or leads to a listed object
 abbrev pub stays_within : List ℕ → List ℕ → Arc → Bool
 stays_within persons objects a = not (is_listed persons a.person) || is_listed objects a.object
 
--- fewer objects than persons, all of the problem, and no arc of a listed person leads to another object
+-- the test of a Hall set: fewer objects than persons, all of the problem, and no arc of a listed person leads to an
+-- unlisted object
 abbrev pub is_hall : Problem → List ℕ → List ℕ → Bool
 is_hall p persons objects =
     (are_below p.persons persons && are_below p.objects objects) &&
     (nat_lt (length objects) (length persons) && list_all (stays_within persons objects) p.arcs)
 
--- what the tests of a claim find, in their order
+-- the results of the tests of a claim, in their order
 abbrev pub faults_of : Problem → CertParts → List (Option CertRefused)
 faults_of p (Optimal cost choice prices) =
     choice_faults p cost choice prices ++ slack_fault p choice prices ∷ left_over_fault choice prices ∷ []
 faults_of p (Infeasible persons objects) = fault_if (not (is_hall p persons objects)) NotHall ∷ []
 faults_of p (Bracket reason lower cost choice prices) = choice_faults p cost choice prices ++ bound_fault p lower prices ∷ []
 
--- the first fault that was found
+-- the first fault of the results, if there is one
 abbrev pub first_of : List (Option CertRefused) → Option CertRefused
 first_of [] = None
 first_of (None ∷ faults) = first_of faults
@@ -116,32 +117,32 @@ first_of (Some e ∷ faults) = Some e
 abbrev pub fault_of : Problem → CertParts → Option CertRefused
 fault_of p c = first_of (faults_of p c)
 
--- this fault is told, or Ok where there is none
+-- the verdict reports this fault, or is Ok where there is none
 abbrev pub IsVerdict : {X : Type 0} → Option CertRefused → Result X CertRefused → Type 0
 IsVerdict fault (Ok x) = fault ≡ None
 IsVerdict fault (Err e) = fault ≡ Some e
 
--- an assignment of this cost, and a number that no assignment costs less than
+-- a bracket: an assignment of this cost, and a lower bound that no assignment costs less than
 pub record IsBracket (p : Problem) (lower cost : ℤ) (choice : List Arc) : Type 0 where
   pub assignment : IsAssignment p choice
   pub cost_is : total_cost choice ≡ cost
   pub bound : (other : List Arc) → IsAssignment p other → lower ≤ℤ total_cost other
 
--- what a certificate says of a problem; no price is in it
+-- what a certificate claims of a problem: a least-cost assignment, a Hall set or a bracket; prices are no part of it
 abbrev pub IsAllowed : Problem → CertParts → Type 0
 IsAllowed p (Optimal cost choice prices) = IsLeast p (chosen 0 choice) × (total_cost (chosen 0 choice) ≡ cost)
 IsAllowed p (Infeasible persons objects) = IsHallSet p persons objects
 IsAllowed p (Bracket reason lower cost choice prices) = IsBracket p lower cost (chosen 0 choice)
 
--- a flag for each person, by what a test says of the arc that he picked
+-- a flag for each person: the result of a test on the arc that the person picks
 abbrev pub AreFlags : (Arc → Bool) → List Pick → List Bool → Type 0
 AreFlags test choice flags = flags ≡ map test (chosen 0 choice)
 
--- what a pick is worth at prices
+-- the value of a pick at prices
 abbrev pub pick_value : ℕ → List ℤ → Pick → ℤ
 pick_value s prices p = arc_value s prices (arc_of 0 p)
 
--- a flag for each number, whether it is listed
+-- a flag for each number: whether it is listed
 abbrev pub AreListed : List ℕ → List Bool → Type 0
 AreListed numbers flags = (k : ℕ) → k < length flags → slice_index_or flags k false ≡ is_listed numbers k
 

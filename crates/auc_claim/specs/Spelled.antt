@@ -9,19 +9,19 @@ use Rattle.auc_claim.specs.declared.version.Version.TheVariants.{First, Second}
 use Rattle.auc_claim.specs.declared.cert.CertParts.{CertParts}
 use Rattle.auc_claim.specs.declared.cert.CertParts.TheVariants.{Optimal, Infeasible, Bracket}
 
--- so many persons, and so many objects, certificates number at most
+-- the most persons and the most objects that a certificate can number
 abbrev pub most_persons : ℕ
 most_persons = 10000
 
 abbrev pub most_objects : ℕ
 most_objects = 20000
 
--- so many objects a certificate of each version numbers at most
+-- the most objects that a certificate of each version can number
 abbrev pub most_in : Version → ℕ
 most_in First = 10000
 most_in Second = most_objects
 
--- so many objects an infeasible certificate names at most
+-- the most objects that an infeasible certificate can name
 abbrev pub most_named : ℕ
 most_named = 10000
 
@@ -32,12 +32,12 @@ version_of_sizes picks prices = if prices == picks then First else Second
 abbrev pub choice_version : List Pick → List ℤ → Version
 choice_version choice prices = version_of_sizes (length choice) (length prices)
 
--- the least number that may stand after a rising list: where objects are counted from 1, the last one's
+-- the least number that may follow a rising list; counted from 1, it is the number of the last object
 abbrev pub least_behind : ℕ → List ℕ → ℕ
 least_behind least [] = least
 least_behind least (k ∷ numbers) = least_behind (k + 1) numbers
 
--- version 1 names objects up to 10,000, and version 2 spells the lists whose last one is above
+-- the version of a list of objects: 1 where the last one is at most 10,000, counted from 1, else 2
 abbrev pub names_version : List ℕ → Version
 names_version objects = if nat_lt (most_in First) (least_behind 0 objects) then Second else First
 
@@ -49,7 +49,7 @@ pub record IsPick (most : ℕ) (p : Pick) : Type 0 where
   pub low : neg_ℤ (pos (10 ^ 9)) ≤ℤ p.cost
   pub high : p.cost ≤ℤ pos (10 ^ 9)
 
--- A pick for each person and a price for each object, of which there may be more.
+-- A pick for each person and a price for each object. There may be more objects than persons.
 pub record IsChoice (choice : List Pick) (prices : List ℤ) : Type 0 where
   pub some : 1 ≤ length choice
   pub most : length choice ≤ most_persons
@@ -58,7 +58,7 @@ pub record IsChoice (choice : List Pick) (prices : List ℤ) : Type 0 where
   pub picks : All (IsPick (most_in (choice_version choice prices))) choice
   pub fair : All IsPrice prices
 
--- somebody is named, and both lists rise
+-- at least one person is named, and both lists rise
 pub record AreNamed (persons objects : List ℕ) : Type 0 where
   pub some : 1 ≤ length persons
   pub few : length objects ≤ most_named

@@ -1,4 +1,4 @@
--- What a run may start from: the prices of an old certificate.
+-- Warm starts: the prices of an old certificate, from which a run may start.
 use Rattle.std.specs.Prelude.{◌≡◌, ℕ, ◌^◌, ◌==◌, ◌&&◌, Bool, List, length, All, Option, Some, None, Result, Ok, Err, ℤ, pos, ◌≤ℤ◌, int_lt, if◌then◌else◌}
 use Rattle.std.specs.List.{position}
 use Rattle.auc_graph.specs.Problem.{Problem}
@@ -23,7 +23,7 @@ abbrev pub start_unless : List ℤ → Option ℕ → Result (List ℤ) StartErr
 start_unless prices None = Ok prices
 start_unless prices (Some object) = Err (TooHigh object)
 
--- the prices beside picks, where both are as many as persons
+-- the prices beside picks, where there are as many of each as persons
 abbrev pub start_of_choice : ℕ → List Pick → List ℤ → Result (List ℤ) StartError
 start_of_choice persons choice prices =
     if (length choice == persons) && (length prices == persons) then start_unless prices (high_price prices) else Err
@@ -34,8 +34,8 @@ start_of_parts persons (Optimal cost choice prices) = start_of_choice persons ch
 start_of_parts persons (Infeasible those objects) = Err NoPrices
 start_of_parts persons (Bracket reason lower cost choice prices) = start_of_choice persons choice prices
 
--- The prices of a certificate, from which a run on this problem may start, or why they can't. Nothing else of the
--- certificate counts.
+-- The prices of a certificate from which a run on this problem may start, or why it can't start from them. Nothing else
+-- of the certificate matters.
 abbrev pub start_of : Problem → CertParts → Result (List ℤ) StartError
 start_of p cert = if p.objects == p.persons then start_of_parts p.persons cert else Err NotSquare
 
@@ -44,7 +44,7 @@ pub record IsStartPrice (price : ℤ) : Type 0 where
   pub low : pos 0 ≤ℤ price
   pub high : price ≤ℤ highest_start
 
--- what a run may start from: one such price for each object, and as many objects as persons
+-- start prices of a problem: one such price for each object, and as many objects as persons
 pub record AreStart (p : Problem) (prices : List ℤ) : Type 0 where
   pub square : p.objects ≡ p.persons
   pub each : length prices ≡ p.objects

@@ -1,4 +1,4 @@
--- What a run comes to, and its answer.
+-- How a run of the direct solver ends, and its answer.
 use Rattle.std.specs.Prelude.{Bool, true, false, ℕ, ℤ, pos, ◌≡◌, ◌⊎◌, ◌≤ℤ◌, List, length, All}
 use Rattle.auc_claim.specs.declared.cert.CertParts.{CertParts}
 use Rattle.auc_claim.specs.declared.reason.Reason.{Reason}
@@ -18,7 +18,7 @@ use Rattle.auc_market.specs.Phases.{IsRun}
 use Rattle.auc_market.specs.Starts.{AreOpened}
 use Rattle.auc_market.specs.Endings.{IsLeft, IsLimit, IsStopped, IsToldOr}
 
--- What a run comes to that began with these prices: only a limit has stopped it, or who watched it.
+-- The result of a run that began with these prices: only a limit has stopped it, or its watch.
 pub record IsOutcome (r : FlatTable) (bids : ℕ) (begun : List ℤ) (before after : Bool) (ending : Ending)
     (prices : List ℤ) (holders : List ℕ) (owns : List ShortArc) : Type 0 where
   pub left : IsLeft r ending prices holders owns
@@ -32,14 +32,14 @@ IsLimitedBy p bids begun (CertParts.Bracket reason lower cost choice prices) =
     (t : Table) × (r : FlatTable) × (first : State) × IsTableOf p t × AreSameRows t r × (begun ≤ℤ total first.prices)
     × IsLimit r bids first reason prices
 
--- a bracket is answered only where a limit has stopped a phase of a run that began with prices of this sum
+-- a bracket is answered only where a limit has stopped a phase of a run; its first prices add up to at least this sum
 abbrev pub IsLimited : Problem → ℕ → ℤ → Answer → Type 0
 IsLimited p bids begun (Answer.Optimal cert) = Unit {0}
 IsLimited p bids begun (Answer.Infeasible cert) = Unit {0}
 IsLimited p bids begun (Answer.Bracket cert) = IsLimitedBy p bids begun cert
 IsLimited p bids begun (Answer.Broken guard) = Unit {0}
 
--- the same of a run from start prices: what counts is how far the sum has risen above what the opening has left of them
+-- the same of a run from start prices: the sum is that of what the opening has left of them
 pub record IsLimitedFrom (p : Problem) (bids : ℕ) (start : List ℤ) (answer : Answer) : Type 0 where
   pub begun : List ℤ
   pub opened : AreOpened p.objects p.persons start begun
@@ -50,16 +50,16 @@ HasReason reason (CertParts.Optimal cost choice prices) = ⊥
 HasReason reason (CertParts.Infeasible persons objects) = ⊥
 HasReason reason (CertParts.Bracket told lower cost choice prices) = told ≡ reason
 
--- what is answered where who watches a run has stopped it: a bracket, with the reason that bids ran out; or that there
--- is no assignment
+-- the answer after a watch has stopped the run: a bracket, with the reason that bids ran out; or that there is no
+-- assignment
 abbrev pub IsStopTold : Answer → Type 0
 IsStopTold (Answer.Optimal cert) = ⊥
 IsStopTold (Answer.Infeasible cert) = Unit {0}
 IsStopTold (Answer.Bracket cert) = HasReason Reason.Bids cert
 IsStopTold (Answer.Broken guard) = ⊥
 
--- What is answered of a run that somebody watches: he has said no, and that is told; or he has said no more than before
--- the call, and this holds.
+-- The answer of a run under a watch. Either the watch has said no, and the answer is that of a stop; or its flag is as
+-- before the call, and the condition holds.
 abbrev pub IsLimitedUnless : Bool → Bool → Answer → Type 0 → Type 0
 IsLimitedUnless before after answer Holds = ((after ≡ true) × IsStopTold answer) ⊎ ((after ≡ before) × Holds)
 
@@ -67,7 +67,7 @@ IsLimitedUnless before after answer Holds = ((after ≡ true) × IsStopTold answ
 abbrev pub IsFull : Problem → Type 0
 IsFull p = (r : FlatTable) × AreRowsOf p r × IsFullTable r
 
--- what may be answered though nobody was asked: that there is no assignment, or what a search over a full table has
+-- answers that need no question to the watch: that there is no assignment, or what a search over a full table has
 -- proposed
 abbrev pub IsUnasked : Problem → Answer → Type 0
 IsUnasked p (Answer.Optimal cert) = IsFull p
@@ -75,16 +75,16 @@ IsUnasked p (Answer.Infeasible cert) = Unit {0}
 IsUnasked p (Answer.Bracket cert) = IsFull p
 IsUnasked p (Answer.Broken guard) = IsFull p
 
--- whoever watches was asked, or needn't have been
+-- the watch was asked, or the answer needs no question to it
 abbrev pub IsAsked : Bool → Problem → Answer → Type 0
 IsAsked true p answer = Unit {0}
 IsAsked false p answer = IsUnasked p answer
 
--- prices to which phases of at most so many bids each lead from these
+-- prices to which phases of at most this number of bids each lead from the first ones
 abbrev pub AreOfRun : Problem → ℕ → List ℤ → List ℤ → Type 0
 AreOfRun p bids begun prices = (r : FlatTable) × (last : State) × AreRowsOf p r × (last.prices ≡ prices) × IsRun r bids begun last
 
--- prices that a search over a full table has proposed, at which each person has an object within 1 of his best
+-- prices that a search over a full table has proposed, at which each person has an object within 1 of the best
 abbrev pub AreAdopted : Problem → List ℤ → Type 0
 AreAdopted p prices = (r : FlatTable) × (last : State) × AreRowsOf p r × (last.prices ≡ prices) × IsAdopted r last
 
@@ -93,16 +93,15 @@ IsClaimOfRun p bids begun (CertParts.Optimal cost choice prices) = AreOfRun p bi
 IsClaimOfRun p bids begun (CertParts.Infeasible persons objects) = Unit {0}
 IsClaimOfRun p bids begun (CertParts.Bracket reason lower cost choice prices) = AreOfRun p bids begun prices
 
--- No phase of the run that an answer comes from has made more bids than it may: the answer's prices are what such
--- phases come to, or those of a full table that was searched as one. Where there is no assignment nothing is said of
--- phases.
+-- No phase of the run has exceeded the limit of bids: the answer's prices come from such phases, or from a search over
+-- a full table. Where there is no assignment, nothing is said of phases.
 abbrev pub IsOfPhases : Problem → ℕ → List ℤ → Answer → Type 0
 IsOfPhases p bids begun (Answer.Optimal cert) = IsClaimOfRun p bids begun cert
 IsOfPhases p bids begun (Answer.Infeasible cert) = Unit {0}
 IsOfPhases p bids begun (Answer.Bracket cert) = IsClaimOfRun p bids begun cert
 IsOfPhases p bids begun (Answer.Broken guard) = Unit {0}
 
--- prices that a run without a start may begin with: one for each object, and none above 0 with more objects than
+-- prices that a run without a start may begin with: one for each object, and all 0 where there are more objects than
 -- persons
 pub record AreFirst (p : Problem) (prices : List ℤ) : Type 0 where
   pub each : length prices ≡ p.objects

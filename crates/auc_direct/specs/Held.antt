@@ -1,4 +1,4 @@
--- The holders as the arcs of the problem by which they hold.
+-- The holders, with the arcs of the problem by which they hold.
 use Rattle.std.specs.Prelude.{ℕ, ◌≡◌, ◌≢◌, ◌<◌, List, [], length, Contains, Option, Some, None, slice_get}
 use Rattle.auc_graph.specs.declared.arc.Arc.{Arc}
 use Rattle.auc_graph.specs.Problem.{Problem}
@@ -9,24 +9,24 @@ use Rattle.auc_rows.specs.declared.arc.ShortArc.{ShortArc}
 use Rattle.auc_market.specs.declared.holdings.TheConstants.{NOBODY}
 use Rattle.auc_market.specs.Market.{holder_at, own_at}
 
--- the arc of a person for which one of his row stands
+-- the problem's arc that an arc of a person's row stands for
 abbrev pub arc_by : ℕ → ShortArc → Arc
 arc_by i s = record { person = i; object = s.object; cost = s.cost }
 
--- each object's holder has it, and each person who has one is its holder
+-- holders and arcs agree: each object's holder has it, and each person with an object is its holder
 pub record AreHolders (p : Problem) (holders : List ℕ) (owns : List ShortArc) : Type 0 where
   pub holders_are : length holders ≡ p.objects
   pub owns_are : length owns ≡ p.persons
   pub held : (j : ℕ) → holder_at holders j ≢ NOBODY → (own_at owns (holder_at holders j)).object ≡ j
   pub holds : (i : ℕ) → (own_at owns i).object ≢ NOBODY → holder_at holders (own_at owns i).object ≡ i
 
--- each arc by which somebody holds is one of the problem's list
+-- each arc by which an object is held is in the problem's list
 abbrev pub AreListed : Problem → List ℕ → List ShortArc → Type 0
 AreListed p holders owns =
     (j : ℕ) → holder_at holders j ≢ NOBODY
     → Contains p.arcs (arc_by (holder_at holders j) (own_at owns (holder_at holders j)))
 
--- nobody holds the object; or its holder does by the arc that he has, which stands there in the problem's list
+-- the object has no holder; or its holder is this person, by the arc at this place of the problem's list
 abbrev pub IsHeld : Problem → List ℕ → List ShortArc → ℕ → Option Held → Type 0
 IsHeld p holders owns j None = holder_at holders j ≡ NOBODY
 IsHeld p holders owns j (Some h) =

@@ -1,4 +1,4 @@
--- What is told of an answer.
+-- What is proved of the answer to a run.
 use Rattle.std.specs.Prelude.{ℕ, ℤ, ◌≡◌, List}
 use Rattle.auc_claim.specs.declared.reason.Reason.{Reason}
 use Rattle.auc_graph.specs.Assignment.{total}
@@ -12,8 +12,7 @@ use Rattle.auc_market.specs.Endings.{IsStopped}
 use Rattle.auc_direct.specs.Endings.{IsLimited, IsOfPhases, IsStopTold}
 use Rattle.auc_direct.specs.Phases.{HasRun}
 
--- What is told of the answer to what a run has come to: it is right, a bracket stands after a limit, or tells of a
--- stop, and its prices are those of the run.
+-- The answer to a run is right, and its prices are those of the run. A bracket follows a limit or reports a stop.
 pub record IsTold (p : Problem) (r : FlatTable) (ending : Ending) (prices : List ℤ) (answer : Answer) : Type 0 where
   pub is : IsAnswer p answer
   pub limited : (bids : ℕ) (begun : State) → IsStopped r bids begun ending prices → IsLimited p bids (total begun.prices) answer

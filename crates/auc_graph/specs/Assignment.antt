@@ -21,13 +21,13 @@ cost_of a = a.cost
 abbrev pub total_cost : List Arc → ℤ
 total_cost arcs = total (map cost_of arcs)
 
--- an arc for each person, in order, and no object twice
+-- an assignment: one arc of the problem for each person, in the persons' order, and no object twice
 pub record IsAssignment (p : Problem) (choice : List Arc) : Type 0 where
   pub persons : map person_of choice ≡ range_with_len 0 p.persons
   pub arcs : All (Contains p.arcs) choice
   pub objects : IsDistinct nat_eq (map object_of choice)
 
--- an assignment, and no other one costs less
+-- a least-cost assignment: no assignment of the problem costs less
 pub record IsLeast (p : Problem) (choice : List Arc) : Type 0 where
   pub assignment : IsAssignment p choice
   pub least : (other : List Arc) → IsAssignment p other → total_cost choice ≤ℤ total_cost other

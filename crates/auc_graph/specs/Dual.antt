@@ -1,5 +1,5 @@
--- Slackness of arcs at prices, and the bound that prices give on the cost of every assignment: the dual of the
--- assignment problem.
+-- Epsilon-complementary slackness of arcs at prices, and the dual bound: what prices say of the cost of every
+-- assignment.
 use Rattle.std.specs.Prelude.{◌≡◌, ℕ, ◌+◌, ◌<◌, ◌≤◌, ◌==◌, ◌&&◌, Bool, List, [], ◌∷◌, length, map, filter, All, Contains, ℤ, pos, ◌+ℤ◌, ◌-ℤ◌, ◌*ℤ◌, ◌≤ℤ◌, int_le, int_lt, slice_index_or}
 use Rattle.std.specs.List.{range_with_len}
 use Rattle.std.specs.Int.{int_min}
@@ -8,24 +8,25 @@ use Rattle.auc_graph.specs.Problem.{Problem}
 use Rattle.auc_graph.specs.Assignment.{total, object_of}
 use Rattle.auc_graph.specs.Value.{value_at}
 
--- the price of an object, and 0 where it has none
+-- the price of an object, or 0 where the list has none
 abbrev pub price_at : List ℤ → ℕ → ℤ
 price_at prices j = slice_index_or prices j (pos 0)
 
--- by what costs are multiplied: one more than the persons
+-- the factor that scales costs: one more than the number of persons
 abbrev pub scale_of : Problem → ℕ
 scale_of p = p.persons + 1
 
--- the value of an arc at prices
+-- the value of an arc at prices: its scaled cost plus the price of its object
 abbrev pub arc_value : ℕ → List ℤ → Arc → ℤ
 arc_value scale prices a = value_at (pos scale) (price_at prices) a.cost a.object
 
--- no arc of the same person is better by more than eps: eps-complementary slackness (Bertsekas)
+-- epsilon-complementary slackness (Bertsekas) of a chosen arc: no arc of the same person has a value that is lower by
+-- more than eps
 abbrev pub IsSlackRight : ℤ → ℕ → List ℤ → List Arc → Arc → Type 0
 IsSlackRight eps scale prices arcs chosen =
     All (λ a. a.person ≡ chosen.person → arc_value scale prices chosen ≤ℤ (arc_value scale prices a +ℤ eps)) arcs
 
--- the least of a number and some more
+-- the least of a number and those of a list
 abbrev pub lowest : ℤ → List ℤ → ℤ
 lowest z [] = z
 lowest z (y ∷ ys) = int_min y (lowest z ys)
@@ -38,7 +39,7 @@ least_of (z ∷ zs) = lowest z zs
 abbrev pub is_his : ℕ → Arc → Bool
 is_his person a = a.person == person
 
--- what a person's arcs are worth, by this measure
+-- the values of a person's arcs, by this measure
 abbrev pub worths : (Arc → ℤ) → List Arc → ℕ → List ℤ
 worths worth arcs person = map worth (filter (is_his person) arcs)
 
@@ -54,7 +55,7 @@ pub record IsLower (scale : ℕ) (d lower : ℤ) : Type 0 where
   pub reaches : d ≤ℤ (pos scale *ℤ lower)
   pub least : (k : ℤ) → d ≤ℤ (pos scale *ℤ k) → lower ≤ℤ k
 
--- the same as a test without division: scaled, the number is at least d, and by less than the scale
+-- the same as a test without division: the scaled number is at least d, and exceeds it by less than the scale
 abbrev pub is_lower : ℕ → ℤ → ℤ → Bool
 is_lower scale d lower = int_le d (pos scale *ℤ lower) && int_lt (pos scale *ℤ lower) (d +ℤ pos scale)
 
@@ -66,10 +67,10 @@ EachHasArc p = (person : ℕ) → person < p.persons → (arc : Arc) × Contains
 abbrev pub AreNotNegative : List ℤ → Type 0
 AreNotNegative prices = (j : ℕ) → pos 0 ≤ℤ price_at prices j
 
--- no more objects than persons have a price: outside of so many at most there is none
+-- at most as many objects as there are persons have a price other than 0
 abbrev pub AreFewPriced : Problem → List ℤ → Type 0
 AreFewPriced p prices = (priced : List ℕ) × (length priced ≤ p.persons) × ((j : ℕ) → ¬ Contains priced j → price_at prices j ≡ pos 0)
 
--- an object to which no arc of the choice leads has no price
+-- each object that the choice leaves unassigned has price 0
 abbrev pub IsNoPriceLeft : List ℤ → List Arc → Type 0
 IsNoPriceLeft prices choice = (j : ℕ) → ¬ Contains (map object_of choice) j → price_at prices j ≡ pos 0

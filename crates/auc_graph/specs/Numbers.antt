@@ -14,17 +14,17 @@ is_point b = b == 46
 abbrev pub is_zero : ℕ → Bool
 is_zero b = b == 48
 
--- one or more digits, and optionally a point that zeros only may follow
+-- one or more digits, and optionally a point that only zeros may follow
 unfoldable pub is_magnitude : List ℕ → Bool
 is_magnitude bytes =
     is_nonempty (before_first is_point bytes) && list_all is_ascii_digit (before_first is_point bytes) && list_all
     is_zero (after_first is_point bytes)
 
--- what such bytes stand for
+-- the number that such bytes spell
 unfoldable pub magnitude : List ℕ → Option ℕ
 magnitude bytes = if is_magnitude bytes then Some (digits_value 10 (before_first is_point bytes)) else None
 
--- whether a minus stands in front, and what stands after the sign, where there is one
+-- whether the first byte is a minus, and the bytes after the sign, if there is one
 unfoldable pub split_sign : List ℕ → Bool × List ℕ
 split_sign [] = (false, [])
 split_sign (b ∷ bytes) = if b == 43 then (false, bytes) else (if b == 45 then (true, bytes) else (false, b ∷ bytes))
@@ -36,23 +36,23 @@ signed negative n = if negative then neg_ℤ (pos n) else pos n
 unfoldable pub numeral : List ℕ → Option ℤ
 numeral token = option_map (signed (split_sign token).0) (magnitude (split_sign token).1)
 
--- a number by its size: of more than 10 ^ 18 no more is said
+-- a number by its size: above 10 ^ 18 in magnitude only that it is huge
 abbrev pub sized : ℤ → Number
 sized z = if nat_le (unsigned_abs z) (10 ^ 18) then Value z else Huge
 
 unfoldable pub number : List ℕ → Number
 number token = option_map_or sized (numeral token) Bad
 
--- what the tokens of a text are as numbers
+-- the tokens of a text, each as a number
 unfoldable pub numbers : List ℕ → List Number
 numbers text = map number (tokens text)
 
--- how many bytes a point and the zeros after it take at the front
+-- the number of bytes that a point and the zeros after it take at the front
 abbrev pub fraction_len : List ℕ → ℕ
 fraction_len [] = 0
 fraction_len (b ∷ bytes) = if is_point b then suc (prefix_len is_zero bytes) else 0
 
--- the token at the front is so many digits of this value, and the value is told
+-- the token at the front consists of len digits, and their value is at most 10 ^ 18
 pub record IsPlainToken (bytes : List ℕ) (value len : ℕ) : Type 0 where
   pub token : len ≡ position_or_len is_separator bytes
   pub some : 0 < len

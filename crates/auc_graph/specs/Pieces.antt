@@ -1,4 +1,4 @@
--- Reading a text that comes in pieces: what is known after a piece, and what is kept of it.
+-- Reading a text in pieces: what is known after a piece, and what is kept of it.
 use Rattle.std.specs.Prelude.{◌≡◌, ℕ, ◌≤◌, ◌<◌, ◌+◌, ◌^◌, List, [], ◌∷◌, ◌++◌, length, Result, Ok, Err, ⊤, if◌then◌else◌, Option}
 use Rattle.std.specs.Fmt.{decimal}
 use Rattle.std.specs.List.{position_or_len}
@@ -17,11 +17,11 @@ use Rattle.auc_graph.specs.Numbers.{number, numbers}
 use Rattle.auc_graph.specs.Problem.{Problem, IsProblem}
 use Rattle.auc_graph.specs.Reading.{problem, State, reading_on, reading}
 
--- what a text reads as that goes on here, after a stage and so many arcs
+-- the result of reading the rest of a text, after this stage and these arcs
 abbrev pub reading_at : ℕ → Stage → List Arc → List ℕ → Result Problem ReadError
 reading_at limit stage arcs text = reading_on limit (Ok (stage, arcs)) (numbers text)
 
--- a stage beside its arcs, or the first fault
+-- the state of the reader: a stage with its arcs, or the first fault
 abbrev pub state_of : Result Stage ReadError → List Arc → State
 state_of (Ok stage) arcs = Ok (stage, arcs)
 state_of (Err e) arcs = Err e
@@ -29,11 +29,12 @@ state_of (Err e) arcs = Err e
 abbrev pub reading_from : ℕ → Result Stage ReadError → List Arc → List ℕ → Result Problem ReadError
 reading_from limit known arcs text = reading_on limit (state_of known arcs) (numbers text)
 
--- the arcs so far are those of a problem, not more than are allowed
+-- the arcs read so far make a problem, and are no more than the limit
 abbrev pub AreArcs : ℕ → ℕ → ℕ → List Arc → Type 0
 AreArcs limit persons objects arcs = IsProblem (problem persons objects arcs) × (length arcs ≤ limit)
 
--- what a stage keeps: while an arc is read, there is room for it
+-- The invariant of a stage. After the count, the arcs so far make a problem. While an arc is read, its parts are in
+-- range, and the limit leaves room for it.
 abbrev pub IsStage : ℕ → Stage → List Arc → Type 0
 IsStage limit (AtCount wanted) arcs = (arcs ≡ []) × (wanted ≤ MOST_OBJECTS)
 IsStage limit (AtPerson persons objects) arcs = AreArcs limit persons objects arcs
@@ -41,16 +42,16 @@ IsStage limit (AtObject persons objects person) arcs = AreArcs limit persons obj
 IsStage limit (AtCost persons objects person object) arcs =
     AreArcs limit persons objects arcs × (length arcs < limit) × (person < persons) × (object < objects)
 
--- a stage, or a fault
+-- the same of a stage or a fault; of a fault nothing is required
 abbrev pub IsKnown : ℕ → Result Stage ReadError → List Arc → Type 0
 IsKnown limit (Ok stage) arcs = IsStage limit stage arcs
 IsKnown limit (Err e) arcs = ⊤
 
--- there is no separator in it
+-- the token has no separator in it
 abbrev pub IsPlain : List ℕ → Type 0
 IsPlain token = position_or_len is_separator token ≡ length token
 
--- whatever stands after them, two texts are one number
+-- two beginnings of a token are alike: whatever bytes follow, both read as the same number
 abbrev pub AreAlike : List ℕ → List ℕ → Type 0
 AreAlike a b = (more : List ℕ) → number (a ++ more) ≡ number (b ++ more)
 
@@ -63,8 +64,8 @@ abbrev pub IsCapped : Unfinished → Type 0
 IsCapped NoNumber = ⊤
 IsCapped (Digits negative value point) = value ≤ 10 ^ 18 + 1
 
--- What a reader answers that has taken this text and has so much left: at the end, what the whole text reads as; of too
--- many reads, that each has taken a byte. Of a read that failed, and of want of memory, nothing is said.
+-- The answer of a reader that has taken this text, with these bytes left. At the end, it is the result of reading the
+-- whole text. After too many reads, each read has taken a byte. Nothing is said of a failed read or of want of memory.
 abbrev pub IsRead : ReadLimits → Option (List ℕ) → List ℕ → Result Problem ReadError → Type 0
 IsRead limits left text (Err NoMemory) = ⊤
 IsRead limits left text (Err ReadFault) = ⊤

@@ -8,14 +8,14 @@ pub record Problem : Type 0 where
   pub objects : ℕ
   pub arcs : List Arc
 
--- an arc of a problem with so many persons and objects
+-- an arc within a problem with these numbers of persons and objects: both ends exist, and the cost is in range
 pub record IsWithin (persons objects : ℕ) (arc : Arc) : Type 0 where
   pub person : arc.person < persons
   pub object : arc.object < objects
   pub low : neg_ℤ MOST_COST ≤ℤ arc.cost
   pub high : arc.cost ≤ℤ MOST_COST
 
--- What holds of each problem. There may be more objects than persons.
+-- The limits of each problem. There may be more objects than persons.
 pub record IsProblem (p : Problem) : Type 0 where
   pub some : 1 ≤ p.persons
   pub most : p.persons ≤ MOST_PERSONS

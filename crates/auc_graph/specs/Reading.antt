@@ -1,4 +1,4 @@
--- How the numbers of a text read, one after another: as a problem, or as the first fault.
+-- How the numbers of a text are read, one after another: as a problem, or as the first fault.
 use Rattle.std.specs.Prelude.{ℕ, ◌+◌, ◌*◌, ◌-◌, ◌==◌, Bool, ◌&&◌, nat_le, nat_lt, if◌then◌else◌, List, [], ◌∷◌, ◌++◌, length, Result, Ok, Err, ℤ, pos, neg_ℤ, unsigned_abs, int_le, fold}
 use Rattle.auc_graph.specs.declared.number.Number.{Number}
 use Rattle.auc_graph.specs.declared.number.Number.TheVariants.{Bad, Value, Huge}
@@ -19,7 +19,7 @@ abbrev pub ◌>>=◌ : {A B : Type 0} → Result A ReadError → (A → Result B
 abbrev pub is_between : ℤ → ℤ → ℤ → Bool
 is_between least most z = int_le least z && int_le z most
 
--- the number at a token, where it is one and from least to most
+-- the number of a token, if it is a number from least to most
 abbrev pub within : ℤ → ℤ → ℕ → ReadError → Number → Result ℤ ReadError
 within least most token range Bad = Err (BadNumber token)
 within least most token range Huge = Err range
@@ -40,26 +40,25 @@ arc_of person object c = record { person = person; object = object; cost = c }
 abbrev pub problem : ℕ → ℕ → List Arc → Problem
 problem persons objects arcs = record { persons = persons; objects = objects; arcs = arcs }
 
--- no triple stands after the allowed number of them
+-- no triple follows the allowed number of triples
 abbrev pub room : ℕ → ℕ → Result ℕ ReadError
 room limit before = if nat_le limit before then Err TooManyArcs else Ok before
 
--- the number of objects beside so many persons, where so many are wanted: 0 means as many as persons, and fewer are too
--- few
+-- The number of objects, from the number wanted. 0 means as many as persons, and fewer than persons is a fault.
 abbrev pub objects_for : ℕ → ℕ → Result ℕ ReadError
 objects_for wanted persons = if wanted == 0 then Ok persons else (if nat_lt wanted persons then Err TooFewObjects else Ok wanted)
 
--- the stage and the arcs after some numbers of a text, or the first fault in them; the first stage knows how many
--- objects are wanted, a later one the numbers of persons and objects, and of the next arc the person and the object, as
--- far as they have been read
+-- The stage and the arcs after some numbers of a text, or the first fault in them. The first stage has the number of
+-- objects wanted. A later one has the numbers of persons and objects, and of the next arc the person and the object as
+-- far as they have been read.
 abbrev pub State : Type 0
 State = Result (Stage × List Arc) ReadError
 
 abbrev pub start : ℕ → State
 start wanted = Ok (AtCount wanted, [])
 
--- What the next number makes of a stage and of the arcs so far. The first number of arc k stands at token 1 + 3 * k,
--- all counted from 0.
+-- The state after the next number, from a stage and the arcs so far. The first number of arc k is token 1 + 3 * k, all
+-- counted from 0.
 unfoldable pub step_at : ℕ → Stage → List Arc → Number → State
 step_at limit (AtCount wanted) arcs x = do
   before ← index MOST_PERSONS 0 CountRange x
@@ -76,12 +75,12 @@ step_at limit (AtCost persons objects person object) arcs x = do
   c ← cost (3 * length arcs + 3) (CostRange (length arcs)) x
   Ok (AtPerson persons objects, arcs ++ arc_of person object c ∷ [])
 
--- a fault stays the first one
+-- the state after the next number, where a fault stays the first one
 unfoldable pub step : ℕ → State → Number → State
 step limit (Ok (stage, arcs)) x = step_at limit stage arcs x
 step limit (Err e) x = Err e
 
--- what the end of the text makes of a stage
+-- the result where the text ends at this stage
 unfoldable pub finish_at : Stage → List Arc → Result Problem ReadError
 finish_at (AtCount wanted) arcs = Err Empty
 finish_at (AtPerson persons objects) arcs = Ok (problem persons objects arcs)
@@ -92,10 +91,10 @@ unfoldable pub finish : State → Result Problem ReadError
 finish (Ok (stage, arcs)) = finish_at stage arcs
 finish (Err e) = Err e
 
--- what a text reads as whose numbers stand after this state: a step for each, and then the end
+-- the result of reading these numbers after this state: a step for each, and then the end of the text
 unfoldable pub reading_on : ℕ → State → List Number → Result Problem ReadError
 reading_on limit state xs = finish (fold (step limit) state xs)
 
--- a text under a limit of arcs, where so many objects are wanted
+-- the result of reading a text, under a limit of arcs and with this number of objects wanted
 abbrev pub reading : ℕ → ℕ → List ℕ → Result Problem ReadError
 reading limit wanted text = reading_on limit (start wanted) (numbers text)

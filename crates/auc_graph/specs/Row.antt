@@ -4,14 +4,14 @@ use Rattle.std.specs.List.{enumerate_from}
 use Rattle.auc_graph.specs.declared.arc.Arc.{Arc}
 use Rattle.auc_graph.specs.declared.rows.RowArc.{RowArc}
 
--- an arc with its place, as it stands in a row
+-- an arc of a row: its cost, its object and its place in the problem's list
 abbrev pub row_arc : ℕ × Arc → RowArc
 row_arc x = record { cost = x.1.cost; object = x.1.object; arc = x.0 }
 
 abbrev pub is_of : ℕ → ℕ × Arc → Bool
 is_of person x = x.1.person == person
 
--- the row of a person: his arcs, in the order of the list, each with its place in it
+-- the row of a person: the person's arcs in the order of the problem's list, each with its place there
 unfoldable pub row : ℕ → List Arc → List RowArc
 row person arcs = map row_arc (filter (is_of person) (enumerate_from 0 arcs))
 

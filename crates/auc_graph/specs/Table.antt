@@ -15,7 +15,7 @@ pub record Table : Type 0 where
 abbrev pub row_of : Table → ℕ → List RowArc
 row_of t person = slice_index_or t.rows person []
 
--- an arc of a row, where there are so many objects
+-- an arc of a row in a table with this number of objects: object, cost and place are in range
 pub record IsRowArc (objects : ℕ) (a : RowArc) : Type 0 where
   pub object : a.object < objects
   pub low : neg_ℤ MOST_COST ≤ℤ a.cost
@@ -27,7 +27,7 @@ pub record IsRow (objects : ℕ) (arcs : List RowArc) : Type 0 where
   pub rising : AllPairs (λ a b. a.arc < b.arc) arcs
   pub few : length arcs ≤ MOST_ARCS
 
--- What holds of the rows of each problem. There may be more objects than persons.
+-- The limits of the rows of each problem. There may be more objects than persons.
 pub record IsTable (t : Table) : Type 0 where
   pub some : 1 ≤ length t.rows
   pub most : length t.rows ≤ MOST_PERSONS

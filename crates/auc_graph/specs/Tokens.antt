@@ -1,4 +1,4 @@
--- The tokens of a text: what stands between separators.
+-- The tokens of a text: the runs of bytes between separators.
 use Rattle.std.specs.Prelude.{◌≡◌, ◌<◌, ◌≤◌, length, slice_index, ℕ, Bool, true, false, ◌&&◌, ◌||◌, ◌==◌, nat_le, List, [], ◌∷◌, filter}
 use Rattle.std.specs.List.{slice_split}
 
@@ -10,12 +10,12 @@ abbrev pub is_nonempty : List ℕ → Bool
 is_nonempty [] = false
 is_nonempty (b ∷ bs) = true
 
--- the longest runs of bytes that are no separators, in order: what stands between separators, but for nothing
+-- the maximal runs of bytes that are no separators, in order; none is empty
 unfoldable pub tokens : List ℕ → List (List ℕ)
 tokens text = filter is_nonempty (slice_split is_separator text)
 
--- From `from` on there are separators up to start, then bytes that are none up to end, and there the text ends
--- or a separator stands.
+-- The first token at or after `from`: separators up to start, then other bytes up to end. There the text ends, or a
+-- separator follows.
 pub record IsFirstToken (text : List ℕ) (from start end : ℕ) : Type 0 where
   pub from_start : from ≤ start
   pub start_end : start < end

@@ -8,7 +8,7 @@ use Rattle.auc_graph.specs.Numbers.{IsPlainToken}
 abbrev pub AreBytes : List ℕ → Type 0
 AreBytes bytes = (i : ℕ) → slice_index_or bytes i 0 < 256
 
--- whatever eight bytes have these under the mask, they begin with the number of the person
+-- every eight bytes that agree with the word under the mask begin with the number of the person, counted from 1
 abbrev pub IsWritten : WrittenPerson → Type 0
 IsWritten written =
     (front : List ℕ) (word : ℕ) → length front ≡ 8 → AreBytes front → word ≡ from_le_bytes w64 front

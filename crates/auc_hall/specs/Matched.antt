@@ -1,17 +1,18 @@
--- A partial assignment, seen by its persons and by its objects at once.
+-- A partial assignment, kept both by persons and by objects.
 use Rattle.std.specs.Prelude.{◌≡◌, ℕ, List, length, Contains, Option, Some, None, slice_index_or}
 use Rattle.auc_graph.specs.declared.rows.RowArc.{RowArc}
 use Rattle.auc_graph.specs.Table.{Table, row_of}
 use Rattle.auc_hall.specs.Partial.{pick}
 
--- the person who holds an object
+-- the holder of an object
 abbrev pub holder_of : List (Option ℕ) → ℕ → Option ℕ
 holder_of holder j = slice_index_or holder j None
 
 abbrev pub IsPlaced : List (Option RowArc) → ℕ → Type 0
 IsPlaced choice i = (a : RowArc) × (pick choice i ≡ Some a)
 
--- who has an arc holds its object, and who holds an object has an arc to it: so no object has two holders
+-- Both sides agree: each person with an arc holds its object, and each holder of an object has an arc to it. So no
+-- object has two holders.
 pub record AreTied (choice : List (Option RowArc)) (holder : List (Option ℕ)) : Type 0 where
   pub taken : (i : ℕ) (a : RowArc) → pick choice i ≡ Some a → holder_of holder a.object ≡ Some i
   pub held : (j i : ℕ) → holder_of holder j ≡ Some i → (a : RowArc) × (pick choice i ≡ Some a) × (a.object ≡ j)

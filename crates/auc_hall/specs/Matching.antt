@@ -1,4 +1,4 @@
--- What a completion answers.
+-- The answer of a completion.
 use Rattle.std.specs.Prelude.{⊤}
 use Rattle.auc_graph.specs.Problem.{Problem}
 use Rattle.auc_graph.specs.Table.{Table}
@@ -8,17 +8,17 @@ use Rattle.auc_hall.specs.Assignment.{IsFull}
 use Rattle.auc_hall.specs.HallSet.{IsRowHallSet}
 use Rattle.auc_hall.specs.OfProblem.{IsFullOf, IsHallSetOf}
 
--- an assignment of these rows, or persons who know too few objects
+-- an assignment by these rows, or a Hall set of them
 abbrev pub IsMatching : Table → Matching → Type 0
 IsMatching t (Full arcs) = IsFull t arcs
 IsMatching t (Hall persons objects) = IsRowHallSet t persons objects
 
--- it is of the second kind
+-- the answer is a Hall set
 abbrev pub IsHall : Matching → Type 0
 IsHall (Full arcs) = ⊥
 IsHall (Hall persons objects) = ⊤
 
--- the same of a problem
+-- an assignment of the problem, or a Hall set of it
 abbrev pub IsMatchingOf : Problem → Matching → Type 0
 IsMatchingOf p (Full arcs) = IsFullOf p arcs
 IsMatchingOf p (Hall persons objects) = IsHallSetOf p persons objects

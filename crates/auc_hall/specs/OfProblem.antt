@@ -1,4 +1,4 @@
--- The same by the arcs of a problem, without its rows.
+-- Assignments and Hall sets by the arcs of a problem, without its rows.
 use Rattle.std.specs.Prelude.{◌≡◌, ℕ, List, map, Contains, Some, slice_get}
 use Rattle.auc_graph.specs.declared.arc.Arc.{Arc}
 use Rattle.auc_graph.specs.Problem.{Problem}
@@ -6,15 +6,15 @@ use Rattle.auc_graph.specs.Assignment.{IsAssignment}
 use Rattle.auc_graph.specs.HallSet.{IsHallSet}
 use Rattle.auc_graph.specs.Rising.{IsRising}
 
--- the arcs that stand at these places are an assignment
+-- the arcs at these places of the problem's list are an assignment
 abbrev pub IsFullOf : Problem → List ℕ → Type 0
 IsFullOf p numbers = (choice : List Arc) × IsAssignment p choice × (map (slice_get p.arcs) numbers ≡ map Some choice)
 
--- each object is one that the persons know
+-- each object is the end of an arc of one of the persons
 abbrev pub AreKnown : Problem → List ℕ → List ℕ → Type 0
 AreKnown p persons objects = (j : ℕ) → Contains objects j → (a : Arc) × Contains p.arcs a × Contains persons a.person × (a.object ≡ j)
 
--- a Hall set, with no object but those that the persons know, both in rising order
+-- a Hall set with exactly the objects to which its persons have arcs, both lists in rising order
 pub record IsHallSetOf (p : Problem) (persons objects : List ℕ) : Type 0 where
   pub set : IsHallSet p persons objects
   pub known : AreKnown p persons objects

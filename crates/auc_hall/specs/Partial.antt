@@ -3,30 +3,30 @@ use Rattle.std.specs.Prelude.{◌≡◌, ◌≢◌, ℕ, List, length, All, Cont
 use Rattle.auc_graph.specs.declared.rows.RowArc.{RowArc}
 use Rattle.auc_graph.specs.Table.{Table, row_of}
 
--- the arc of each person who has one, and how many objects there are
+-- the arc of each person who has one, and the number of objects
 pub record Placed : Type 0 where
   pub choice : List (Option RowArc)
   pub objects : ℕ
 
--- the arc of a person
+-- the arc of a person, if there is one
 abbrev pub pick : List (Option RowArc) → ℕ → Option RowArc
 pick choice i = slice_index_or choice i None
 
--- made for these rows: each arc is one of its person's
+-- a partial assignment for these rows: each arc is in its person's row
 pub record IsFor (t : Table) (p : Placed) : Type 0 where
   pub persons : length p.choice ≡ length t.rows
   pub objects : p.objects ≡ t.objects
   pub own : (i : ℕ) (a : RowArc) → pick p.choice i ≡ Some a → Contains (row_of t i) a
 
--- the arc of this number is the person's, he has none, and nobody has its object
+-- the person may get the arc of this number: it is in the person's row, the person has no arc, and the object is free
 pub record MayPlace (t : Table) (choice : List (Option RowArc)) (person n : ℕ) (a : RowArc) : Type 0 where
   pub his : Contains (row_of t person) a
   pub numbered : a.arc ≡ n
   pub unplaced : pick choice person ≡ None
   pub untaken : (i : ℕ) (b : RowArc) → pick choice i ≡ Some b → b.object ≢ a.object
 
--- Why a person isn't given an arc of this number: he has an arc, or else no arc of his has the number, or else another
--- holds its object. Just one of these holds.
+-- Why a person doesn't get an arc of this number: the person has an arc already, or no arc of the row has the number,
+-- or another person holds the object. Exactly one of these holds.
 pub data IsNotPlaced (t : Table) (choice : List (Option RowArc)) (person n : ℕ) : Type 0 where
   placed_already : (a : RowArc) → pick choice person ≡ Some a → IsNotPlaced t choice person n
   not_his : pick choice person ≡ None → All (λ a. a.arc ≢ n) (row_of t person) → IsNotPlaced t choice person n

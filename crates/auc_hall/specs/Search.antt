@@ -1,4 +1,4 @@
--- What the search for a free object keeps.
+-- The invariants of the search for a free object.
 use Rattle.std.specs.Prelude.{◌≡◌, ◌≢◌, ℕ, ◌+◌, ◌<◌, List, [], ◌∷◌, ◌++◌, Bool, true, false, length, Contains, All, Option, Some, None, slice_get, slice_index_or}
 use Rattle.auc_graph.specs.declared.rows.RowArc.{RowArc}
 use Rattle.auc_graph.specs.Table.{Table, row_of}
@@ -6,7 +6,7 @@ use Rattle.auc_hall.specs.declared.search.Reached.{Reached}
 use Rattle.auc_hall.specs.Partial.{pick}
 use Rattle.auc_hall.specs.Matched.{holder_of}
 
--- the person at this place of the queue has this arc
+-- the person at this place of the queue has this arc in its row
 pub record HasArc (t : Table) (queue : List Reached) (at : ℕ) (a : RowArc) : Type 0 where
   pub by : Reached
   pub there : slice_get queue at ≡ Some by
@@ -30,7 +30,7 @@ pub record Starts (queue : List Reached) (choice : List (Option RowArc)) : Type 
   pub there : slice_get queue 0 ≡ Some by
   pub free : pick choice by.person ≡ None
 
--- how many flags are set
+-- the number of flags that are set
 abbrev pub marked : List Bool → ℕ
 marked [] = 0
 marked (false ∷ flags) = marked flags
@@ -39,18 +39,18 @@ marked (true ∷ flags) = 1 + marked flags
 abbrev pub WasSeen : List Bool → ℕ → Type 0
 WasSeen seen j = slice_index_or seen j false ≡ true
 
--- the object is held by a person of the queue, who is not its first
+-- the object is that of a person of the queue after the first
 abbrev pub Reaches : List Reached → ℕ → Type 0
 Reaches queue j = (m : ℕ) × (e : Reached) × (slice_get queue m ≡ Some e) × (0 < m) × (e.arc.object ≡ j)
 
--- the objects that were seen are those of the queue after its first person
+-- the objects seen so far are exactly those of the queue after its first person
 pub record AreSeen (t : Table) (queue : List Reached) (seen : List Bool) : Type 0 where
   pub size : length seen ≡ t.objects
   pub reached : (m : ℕ) (e : Reached) → slice_get queue m ≡ Some e → 0 < m → WasSeen seen e.arc.object
   pub behind : (j : ℕ) → WasSeen seen j → Reaches queue j
   pub count : marked seen + 1 ≡ length queue
 
--- each arc of the first so many persons of the queue leads to an object that was seen
+-- each arc of the first persons of the queue, up to this place, leads to an object that was seen
 abbrev pub AreWalked : Table → List Reached → List Bool → ℕ → Type 0
 AreWalked t queue seen at =
     (m : ℕ) (e : Reached) → m < at → slice_get queue m ≡ Some e → All (λ a. WasSeen seen a.object) (row_of t e.person)
@@ -61,18 +61,18 @@ pub record IsSearch (t : Table) (choice : List (Option RowArc)) (holder : List (
   pub starts : Starts queue choice
   pub marks : AreSeen t queue seen
 
--- the person has this arc, to a free object
+-- the person has this arc in its row, to a free object
 pub record IsFreeArc (t : Table) (holder : List (Option ℕ)) (person : ℕ) (a : RowArc) : Type 0 where
   pub own : Contains (row_of t person) a
   pub free : holder_of holder a.object ≡ None
   pub room : a.object < length holder
 
--- the person at this place of the queue has this arc, to a free object
+-- the person at this place of the queue has this arc in its row, to a free object
 pub record LeadsOut (t : Table) (holder : List (Option ℕ)) (queue : List Reached) (at : ℕ) (a : RowArc) : Type 0 where
   pub has : HasArc t queue at a
   pub free : holder_of holder a.object ≡ None
   pub room : a.object < length holder
 
--- longer at its end
+-- the queue has grown at its end
 abbrev pub Grows : List Reached → List Reached → Type 0
 Grows queue longer = (more : List Reached) × (longer ≡ queue ++ more)

@@ -1,4 +1,4 @@
--- The award rule: what a bid makes of the object, and the letters that answer it.
+-- The award rule: the object after a bid, and the letters that answer the bid.
 use Rattle.std.specs.Prelude.{ℕ, ℤ, ◌+ℤ◌, ◌==◌, ◌&&◌, int_le, Bool, List, [], ◌∷◌, Option, Some, None, if◌then◌else◌, filter_map}
 use Rattle.std.specs.List.{fold}
 use Rattle.auc_letters.specs.declared.letter.Letter.{Letter}
@@ -8,7 +8,7 @@ use Rattle.auc_letters.specs.declared.state.Held.{Held}
 use Rattle.auc_letters.specs.Price.{is_amount}
 use Rattle.auc_letters.specs.Routing.{to_person, to_object, to_hub}
 
--- what the shard of an object knows of it: its price, and who holds it
+-- the state of an object in its shard: the price, and the holder
 pub record Sale : Type 0 where
   pub price : ℤ
   pub holder : Option Held
@@ -17,19 +17,20 @@ pub record Sale : Type 0 where
 abbrev pub least_amount : ℤ → ℤ → ℤ
 least_amount price eps = price +ℤ eps
 
--- a bid is accepted exactly where it reaches the price and eps more
+-- a bid is accepted exactly where its amount is at least the price plus eps
 abbrev pub is_accepted : ℤ → Sale → Bid → Bool
 is_accepted eps sale bid = int_le (least_amount sale.price eps) bid.amount
 
--- the bidder holds the object, by his arc, and the amount is the price
+-- the object after an accepted bid: the bidder holds it by the arc of the bid, and the amount is its price
 abbrev pub sold_by : Bid → Sale
 sold_by bid = record { price = bid.amount; holder = Some (record { person = bid.person; arc = bid.arc }) }
 
--- The award: an accepted bid sells the object, any other changes nothing.
+-- The award: an accepted bid sells the object, and any other bid changes nothing.
 abbrev pub award : ℤ → Sale → Bid → Sale
 award eps sale bid = if is_accepted eps sale bid then sold_by bid else sale
 
--- the letters of an accepted bid: the earlier holder is outbid before the award; an object without holder is counted
+-- the letters of an accepted bid: Outbid to the holder before, then the award; or the award, then First to the hub if
+-- the object had no holder
 abbrev pub awards : ℕ → Option Held → ℕ → ℕ → ℤ → List Out
 awards shards None person object price = to_person shards person (Letter.Award person object price) ∷ to_hub (Letter.First object) ∷ []
 awards shards (Some held) person object price =
@@ -40,17 +41,17 @@ awards shards (Some held) person object price =
 abbrev pub refusal : ℕ → ℕ → ℕ → ℤ → List Out
 refusal shards person object price = to_person shards person (Letter.Refused person object price) ∷ []
 
--- The letters that answer a bid, in the order in which they are sent, where there are so many shards of the persons.
+-- The letters that answer a bid, in the order in which they are sent, for this number of person shards.
 abbrev pub answers : ℕ → ℤ → Sale → Bid → List Out
 answers shards eps sale bid =
     if is_accepted eps sale bid then awards shards sale.holder bid.person bid.object bid.amount else refusal shards
     bid.person bid.object sale.price
 
--- what bids on one object make of it, one after another
+-- the object after some bids on it, one after another
 abbrev pub award_all : ℤ → Sale → List Bid → Sale
 award_all eps sale bids = fold (award eps) sale bids
 
--- a bid of the person by the arc at that place, on the object
+-- the bid of a person on an object, by the arc at this place
 abbrev pub bid_of : ℕ → ℕ → ℕ → ℤ → Bid
 bid_of person arc object amount = record { person = person; arc = arc; object = object; amount = amount }
 
@@ -58,11 +59,11 @@ bid_of person arc object amount = record { person = person; arc = arc; object = 
 abbrev pub bid_letter : Bid → Letter
 bid_letter bid = Letter.Bid bid.person bid.arc bid.object bid.amount
 
--- a bid as a letter to the shard of its object, of so many
+-- a bid as a letter to the shard of its object, for this number of shards
 abbrev pub bid_out : ℕ → Bid → Out
 bid_out shards bid = to_object shards bid.object (bid_letter bid)
 
--- the bid on this object that a letter is, if it is one and its amount is in range
+-- the bid on this object that a letter holds, if its amount is in range
 abbrev pub bid_on : ℕ → Letter → Option Bid
 bid_on object (Letter.Bid i a j amount) = if (j == object) && is_amount amount then Some (bid_of i a j amount) else None
 bid_on object (Letter.Award i j p) = None

@@ -8,6 +8,6 @@ is_free PersonState.Free = true
 is_free (PersonState.Waits object) = false
 is_free (PersonState.Holds object) = false
 
--- the persons of a shard, of so many shards and persons, in rising order
+-- the persons of a shard in rising order, for these numbers of shards and persons
 abbrev pub persons_of : ℕ → ℕ → ℕ → List ℕ
 persons_of shard shards persons = filter (λ i. (i % shards) == shard) (range_with_len 0 persons)

@@ -1,10 +1,10 @@
--- What a person bids.
+-- The bid of a person in the direct solver: what it does to the price, and the rule of its amount.
 use Rattle.std.specs.Prelude.{ℤ, pos, ◌≡◌, ◌⊎◌, ◌+ℤ◌, ◌*ℤ◌, ◌≤ℤ◌, List, All, Contains, set}
 use Rattle.auc_graph.specs.Dual.{price_at}
 use Rattle.auc_rows.specs.declared.arc.ShortArc.{ShortArc}
 use Rattle.auc_market.specs.Scan.{short_value}
 
--- A bid by an arc of his raises its object's price by eps or more, and at the price that it makes no other arc of his
+-- A bid by an arc of the person raises the object's price by eps or more. At the new price no other arc of the person
 -- is better by more than eps.
 pub record IsRaise (scale eps : ℤ) (prices : List ℤ) (row : List ShortArc) (arc : ShortArc) (amount : ℤ) : Type 0 where
   pub listed : Contains row arc
@@ -13,9 +13,8 @@ pub record IsRaise (scale eps : ℤ) (prices : List ℤ) (row : List ShortArc) (
       (λ b. short_value scale (set prices arc.object amount) arc ≤ℤ (short_value scale (set prices arc.object amount) b +ℤ eps))
       row
 
--- An amount that the rule of a bid makes: the price of the person's best arc, how much any other arc of his is worth
--- more, or less than that, and eps. Where he has no other arc, no more than the scaled spread of all costs stands for
--- the difference.
+-- An amount by the rule of a bid: the object's price, plus a margin, plus eps. Each other arc's value is at least this
+-- arc's plus the margin. Where there is no other arc, the margin is at most the scaled spread of all costs.
 pub record IsOffer (scale spread eps : ℤ) (prices : List ℤ) (row : List ShortArc) (arc : ShortArc) (amount : ℤ) : Type 0 where
   pub listed : Contains row arc
   pub lead : ℤ

@@ -1,4 +1,4 @@
--- The bids of a phase, one after another, and how many they are.
+-- The bids of a phase, one after another, and their number.
 use Rattle.std.specs.Prelude.{ℕ, ℤ, ◌≡◌, ◌+◌, ◌≤◌, ◌<◌, List, length, set}
 use Rattle.auc_claim.specs.declared.reason.Reason.{Reason}
 use Rattle.auc_rows.specs.declared.arc.ShortArc.{ShortArc}
@@ -10,7 +10,7 @@ use Rattle.auc_market.specs.Bid.{IsOffer}
 use Rattle.auc_market.specs.Market.{holder_at, no_own, own_at}
 use Rattle.auc_market.specs.Way.{IsWay}
 
--- the prices, who holds each object, and by which arc each person holds his
+-- the prices, the holder of each object, and the arc by which each person holds an object
 pub record State : Type 0 where
   pub prices : List ℤ
   pub holders : List ℕ
@@ -19,12 +19,11 @@ pub record State : Type 0 where
 abbrev pub state : List ℤ → List ℕ → List ShortArc → State
 state p h o = record { prices = p; holders = h; owns = o }
 
--- the state that a market is in
+-- the state of a market
 abbrev pub state_of : Holdings → State
 state_of m = state m.prices.items m.holders.items m.owns.items
 
--- One bid: a person who has no object offers by the rule, the object is his, the amount is its price, and who has held
--- it has none.
+-- One bid: a free person offers by the rule and gets the object at that amount. The holder before is displaced.
 pub record IsBidMade (r : FlatTable) (eps : ℤ) (s t : State) : Type 0 where
   pub person : ℕ
   pub known : person < length r.rows
@@ -36,31 +35,31 @@ pub record IsBidMade (r : FlatTable) (eps : ℤ) (s t : State) : Type 0 where
   pub holders : t.holders ≡ set s.holders arc.object person
   pub owns : t.owns ≡ set (set s.owns person arc) (holder_at s.holders arc.object) no_own
 
--- a path, whole or in part, or nothing
+-- an augmenting path, whole or in part, or nothing
 pub record IsPathMade (r : FlatTable) (eps : ℤ) (s t : State) : Type 0 where
   pub person : ℕ
   pub free : ℕ
   pub way : IsWay r eps person s.prices t.prices t.holders s.owns t.owns free
 
--- so many bids lead from one state to another, with paths between them
+-- this number of bids leads from one state to another, with paths between them
 pub data AreMade (r : FlatTable) (eps : ℤ) (s : State) : ℕ → State → Type 0 where
   opens : (n : ℕ) (t : State) → n ≡ 0 → t ≡ s → AreMade r eps s n t
   bids : (m n : ℕ) (t u : State) → AreMade r eps s m t → IsBidMade r eps t u → n ≡ m + 1 → AreMade r eps s n u
   goes : (n : ℕ) (t u : State) → AreMade r eps s n t → IsPathMade r eps t u → AreMade r eps s n u
 
--- as many bids as were left before and are no more
+-- the bids made are those that were left before, less those that are left after
 pub record AreSpent (r : FlatTable) (eps : ℤ) (before after : ℕ) (s t : State) : Type 0 where
   pub made : ℕ
   pub sum : made + after ≡ before
   pub run : AreMade r eps s made t
 
--- at most so many
+-- at most this number of bids
 pub record AreMadeWithin (r : FlatTable) (eps : ℤ) (most : ℕ) (s t : State) : Type 0 where
   pub made : ℕ
   pub few : made ≤ most
   pub run : AreMade r eps s made t
 
--- a phase makes all the bids that it may where they are why it has stopped, and never more
+-- the number of bids of a phase: exactly the limit where the bid limit has stopped it, and never more
 abbrev pub AreCounted : FlatTable → ℤ → ℕ → Ending → State → State → Type 0
 AreCounted r eps most Ending.Sold s t = AreMadeWithin r eps most s t
 AreCounted r eps most (Ending.Stopped Reason.Bids) s t = AreMade r eps s most t

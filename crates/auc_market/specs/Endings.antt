@@ -1,4 +1,4 @@
--- What a chain of bids, a phase and a run come to.
+-- How a chain of bids, a phase and a run end.
 use Rattle.std.specs.Prelude.{Bool, true, ℕ, ℤ, pos, ◌≡◌, ◌⊎◌, ◌+ℤ◌, ◌≤ℤ◌, List, length, All}
 use Rattle.auc_claim.specs.declared.reason.Reason.{Reason}
 use Rattle.auc_graph.specs.Assignment.{total}
@@ -12,7 +12,8 @@ use Rattle.auc_market.specs.Phases.{ArePhases}
 use Rattle.auc_market.specs.Eps.{IsEpsOf}
 use Rattle.auc_market.specs.Market.{HaveObjects, IsAbove, Stands}
 
--- As many bids as a phase may make lead to these prices, from a state to which the phases of a run have led.
+-- The bids of a phase have run out: exactly the limit of bids leads to these prices. The phase began at a state to
+-- which earlier phases of the run have led.
 pub record HaveRunOut (r : FlatTable) (bids : ℕ) (begun : State) (prices : List ℤ) : Type 0 where
   pub eps : ℤ
   pub is_eps : IsEpsOf r eps
@@ -23,9 +24,8 @@ pub record HaveRunOut (r : FlatTable) (bids : ℕ) (begun : State) (prices : Lis
   pub run : AreMade r eps first bids last
   pub prices_are : prices ≡ last.prices
 
--- Why a phase may be stopped: it has made as many bids as it may, and the prices add up to more than those that the run
--- began with, by no less than the bids that a phase may take, each of which has raised one; or somebody's bid, at an
--- eps of a phase, would be more than the greatest price.
+-- The limits that may stop a phase. Either it has made all its bids, and the prices add up to at least that many more
+-- than those that the run began with. Or some person's bid, at an eps of a phase, would be above the greatest price.
 abbrev pub IsLimit : FlatTable → ℕ → State → Reason → List ℤ → Type 0
 IsLimit r bids begun Reason.Bids prices = HaveRunOut r bids begun prices × ((total begun.prices +ℤ pos bids) ≤ℤ total prices)
 IsLimit r bids begun Reason.Ceiling prices = (eps : ℤ) × IsEpsOf r eps × IsAbove r eps prices
@@ -33,12 +33,12 @@ IsLimit r bids begun Reason.Posts prices = ⊥
 IsLimit r bids begun Reason.Trail prices = ⊥
 IsLimit r bids begun Reason.Mail prices = ⊥
 
--- each person has an object; or a limit has stopped the phase
+-- each person has an object, or a limit has stopped the phase
 abbrev pub IsEnding : FlatTable → ℕ → State → Ending → List ℤ → List ShortArc → Type 0
 IsEnding r bids begun Ending.Sold prices owns = HaveObjects (length r.rows) owns
 IsEnding r bids begun (Ending.Stopped reason) prices owns = IsLimit r bids begun reason prices
 
--- for what a run in one hand may be stopped; who watches it stops it as if its bids had run out
+-- the reasons for which a direct run may be stopped; a watch stops it as if its bids had run out
 abbrev pub IsOwnReason : Reason → Type 0
 IsOwnReason Reason.Bids = Unit {0}
 IsOwnReason Reason.Ceiling = Unit {0}
@@ -46,28 +46,30 @@ IsOwnReason Reason.Posts = ⊥
 IsOwnReason Reason.Trail = ⊥
 IsOwnReason Reason.Mail = ⊥
 
--- where a phase has sold all, each person has an object
+-- where a phase has ended as sold, each person has an object
 abbrev pub IsSold : FlatTable → Ending → List ShortArc → Type 0
 IsSold r Ending.Sold owns = HaveObjects (length r.rows) owns
 IsSold r (Ending.Stopped reason) owns = IsOwnReason reason
 
--- what a phase at this eps begins with: as many objects as persons, or no price
+-- prices that a phase at this eps may begin with: either there are as many objects as persons, or all are 0 and eps is
+-- 1
 pub record IsStart (r : FlatTable) (eps : ℤ) (prices : List ℤ) : Type 0 where
   pub each : length prices ≡ r.objects
   pub within : All IsPrice prices
   pub spare : (r.objects ≡ length r.rows) ⊎ ((eps ≡ pos 1) × ((j : ℕ) → price_at prices j ≡ pos 0))
 
--- what all phases leave: the last one, at eps 1, has given each person an object; or one of them was stopped
+-- what all phases leave: either the last one, at eps 1, has given each person an object, or one of them was stopped
 abbrev pub IsLeft : FlatTable → Ending → List ℤ → List ℕ → List ShortArc → Type 0
 IsLeft r Ending.Sold prices holders owns = Stands r (pos 1) prices holders owns × HaveObjects (length r.rows) owns
 IsLeft r (Ending.Stopped reason) prices holders owns = (eps : ℤ) × Stands r eps prices holders owns × IsOwnReason reason
 
--- only a limit has stopped one
+-- if a phase was stopped, a limit has stopped it
 abbrev pub IsStopped : FlatTable → ℕ → State → Ending → List ℤ → Type 0
 IsStopped r bids begun Ending.Sold prices = Unit {0}
 IsStopped r bids begun (Ending.Stopped reason) prices = IsLimit r bids begun reason prices
 
--- What a run comes to that somebody watches, of whom it is known whether he had said no before it and has said no after
--- it: he has said no, and it ends as one whose bids have run out; or he has said no more than before, and this holds.
+-- The ending of a run under a watch, by whether the watch had said no before it, and whether it has after it. Either it
+-- has said no, and the run ends as one whose bids have run out; or nothing has changed about that, and the condition
+-- holds.
 abbrev pub IsToldOr : Bool → Bool → Ending → Type 0 → Type 0
 IsToldOr before after ending Holds = ((after ≡ true) × (ending ≡ Ending.Stopped Reason.Bids)) ⊎ ((after ≡ before) × Holds)

@@ -1,4 +1,4 @@
--- Eps of a phase.
+-- The eps of a phase, in epsilon scaling.
 use Rattle.std.specs.Prelude.{ℤ, pos, ◌≡◌, ◌⊎◌, ◌*ℤ◌, ◌≤ℤ◌}
 use Rattle.auc_rows.specs.Rows.{FlatTable, scale_in}
 

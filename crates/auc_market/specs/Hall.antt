@@ -1,15 +1,15 @@
--- Persons who by their rows know fewer objects than they number, and the flags that tell of them.
+-- Hall sets by the rows of a flat table, and the flags from which they are read.
 use Rattle.std.specs.Prelude.{◌≡◌, ◌⊎◌, ℕ, ◌<◌, Bool, List, length, Contains, Some, slice_get}
 use Rattle.auc_graph.specs.Rising.{IsRising}
 use Rattle.auc_hall.specs.Search.{WasSeen}
 use Rattle.auc_rows.specs.declared.arc.ShortArc.{ShortArc}
 use Rattle.auc_rows.specs.Rows.{FlatTable, flat_row_of}
 
--- a person knows the objects of his arcs
+-- the person has an arc to the object
 abbrev pub KnowsShort : FlatTable → ℕ → ℕ → Type 0
 KnowsShort r person object = (s : ShortArc) × Contains (flat_row_of r person) s × (s.object ≡ object)
 
--- the objects are just those that the persons know, and fewer than they
+-- a Hall set: the objects are exactly those to which the persons have arcs, and fewer than the persons
 pub record IsShortHallSet (r : FlatTable) (persons objects : List ℕ) : Type 0 where
   pub within : (i : ℕ) → Contains persons i → i < length r.rows
   pub persons_rise : IsRising persons
@@ -20,14 +20,14 @@ pub record IsShortHallSet (r : FlatTable) (persons objects : List ℕ) : Type 0 
 
 -- ---- by flags
 
--- flags are set for the first n arcs of a row, and those that were set before stay
+-- flags are set for the objects of the first n arcs of a row, and earlier flags stay
 pub record AreAdded (row : List ShortArc) (n : ℕ) (old new : List Bool) : Type 0 where
   pub size : length new ≡ length old
   pub stay : (j : ℕ) → WasSeen old j → WasSeen new j
   pub each : (k : ℕ) (s : ShortArc) → k < n → slice_get row k ≡ Some s → WasSeen new s.object
   pub only : (j : ℕ) → WasSeen new j → WasSeen old j ⊎ ((s : ShortArc) × Contains row s × (s.object ≡ j))
 
--- flags are set for just those objects that somebody knows who is one of the first n persons and has a flag
+-- flags are set for exactly the objects to which a flagged person among the first n has an arc
 pub record AreKnownTo (r : FlatTable) (is_in : List Bool) (n : ℕ) (seen : List Bool) : Type 0 where
   pub size : length seen ≡ r.objects
   pub all : (i j : ℕ) → i < n → WasSeen is_in i → KnowsShort r i j → WasSeen seen j

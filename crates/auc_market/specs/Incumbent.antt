@@ -1,4 +1,4 @@
--- What persons held when each had an object last.
+-- The incumbent: the arcs by which the persons held objects when each had one last.
 use Rattle.std.specs.Prelude.{ℕ, true, ◌≡◌, ◌≢◌, ◌⊎◌, List, length, Contains}
 use Rattle.auc_rows.specs.declared.arc.ShortArc.{ShortArc}
 use Rattle.auc_rows.specs.Rows.{FlatTable, flat_row_of}
@@ -7,19 +7,20 @@ use Rattle.auc_market.specs.declared.holdings.TheConstants.{NOBODY}
 use Rattle.auc_market.specs.declared.incumbent.Incumbent.{Incumbent}
 use Rattle.auc_market.specs.Market.{holder_at, own_at}
 
--- each object's holder has it, each person who has one is its holder, and holds it by an arc of his
+-- holders and arcs that agree: each object's holder has it, and each person with an object is its holder, by an arc of
+-- the person's row
 pub record AreSeats (r : FlatTable) (holders : List ℕ) (owns : List ShortArc) : Type 0 where
   pub held : (j : ℕ) → holder_at holders j ≢ NOBODY → (own_at owns (holder_at holders j)).object ≡ j
   pub holds : (i : ℕ) → (own_at owns i).object ≢ NOBODY → holder_at holders (own_at owns i).object ≡ i
   pub listed : (i : ℕ) → (own_at owns i).object ≢ NOBODY → Contains (flat_row_of r i) (own_at owns i)
 
--- a place for each object and each person; and such seats, where there is an incumbent
+-- a place for each object and each person; and, where there is an incumbent, such holders and arcs
 pub record IsIncumbent (r : FlatTable) (i : Incumbent) : Type 0 where
   pub holders_are : length i.holders.items ≡ r.objects
   pub owns_are : length i.owns.items ≡ length r.rows
   pub seats : i.is_whole ≡ true → (r.objects ≡ length r.rows) × AreSeats r i.holders.items i.owns.items
 
--- nothing has changed; or the incumbent is what was held
+-- nothing has changed, or the incumbent is now what was held
 abbrev pub AreSetAside : Holdings → Incumbent → Holdings → Incumbent → Type 0
 AreSetAside old before new after =
     ((new ≡ old) × (after ≡ before))

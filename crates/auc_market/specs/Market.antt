@@ -1,4 +1,4 @@
--- The state of a phase: the prices, who holds each object, and by which arc each person holds his.
+-- The state of a phase: the prices, the holder of each object, and the arc by which each person holds an object.
 use Rattle.std.specs.Prelude.{ℕ, ℤ, pos, ◌≡◌, ◌≢◌, ◌⊎◌, ◌<◌, ◌^◌, ◌+ℤ◌, ◌≤ℤ◌, ◌<ℤ◌, List, length, All, Contains, slice_index_or}
 use Rattle.auc_graph.specs.Assignment.{total}
 use Rattle.auc_graph.specs.Dual.{price_at}
@@ -9,7 +9,7 @@ use Rattle.auc_market.specs.declared.holdings.TheConstants.{NOBODY}
 use Rattle.auc_market.specs.Bid.{IsOffer}
 use Rattle.auc_market.specs.Scan.{short_value}
 
--- who holds an object
+-- the holder of an object
 abbrev pub holder_at : List ℕ → ℕ → ℕ
 holder_at holders j = slice_index_or holders j NOBODY
 
@@ -21,16 +21,17 @@ no_own = record { object = NOBODY; cost = pos 0 }
 abbrev pub own_at : List ShortArc → ℕ → ShortArc
 own_at owns i = slice_index_or owns i no_own
 
--- an arc of a person, and no other one of his is better by more than eps
+-- epsilon-complementary slackness of an arc of the person's row: no other arc of the row is better by more than eps
 pub record IsSlack (r : FlatTable) (eps : ℤ) (prices : List ℤ) (i : ℕ) (s : ShortArc) : Type 0 where
   pub listed : Contains (flat_row_of r i) s
   pub least : All (λ b. short_value (scale_in r) prices s ≤ℤ (short_value (scale_in r) prices b +ℤ eps)) (flat_row_of r i)
 
--- there are as many objects as persons, or one that nobody holds has no price
+-- either there are as many objects as persons, or each object without a holder has price 0
 abbrev pub AreSpare : FlatTable → List ℤ → List ℕ → Type 0
 AreSpare r prices holders = (r.objects ≡ length r.rows) ⊎ ((j : ℕ) → holder_at holders j ≡ NOBODY → price_at prices j ≡ pos 0)
 
--- What holds between two bids: each object's holder has it, and each person who has one is its holder.
+-- The invariant between two bids. Each object's holder has it, and each person with an object is its holder. Prices are
+-- in range, and each holder's arc satisfies epsilon-complementary slackness.
 pub record Stands (r : FlatTable) (eps : ℤ) (prices : List ℤ) (holders : List ℕ) (owns : List ShortArc) : Type 0 where
   pub prices_are : length prices ≡ r.objects
   pub holders_are : length holders ≡ r.objects
@@ -41,7 +42,7 @@ pub record Stands (r : FlatTable) (eps : ℤ) (prices : List ℤ) (holders : Lis
   pub holds : (i : ℕ) → (own_at owns i).object ≢ NOBODY → holder_at holders (own_at owns i).object ≡ i
   pub slack : (i : ℕ) → (own_at owns i).object ≢ NOBODY → IsSlack r eps prices i (own_at owns i)
 
--- prices have risen, and nobody has got or left an object
+-- prices have risen or stayed, and no person has got or lost an object
 pub record IsLifted (prices new : List ℤ) (holders held : List ℕ) (owns had : List ShortArc) : Type 0 where
   pub many : length new ≡ length prices
   pub within : All IsPrice new
@@ -53,15 +54,15 @@ pub record IsLifted (prices new : List ℤ) (holders held : List ℕ) (owns had 
 abbrev pub HaveObjects : ℕ → List ShortArc → Type 0
 HaveObjects n owns = (i : ℕ) → i < n → (own_at owns i).object ≢ NOBODY
 
--- Each of the first n persons has an object, but for two, who have none and are not the same: who bids next, and who
--- waits for his turn. NOBODY stands for one where there is none.
+-- Each of the first n persons has an object, but for two different ones who have none: the next bidder, and one that
+-- waits for a turn. NOBODY stands for either where there is none.
 pub record HaveAllBut (n : ℕ) (owns : List ShortArc) (person other : ℕ) : Type 0 where
   pub none : (own_at owns person).object ≡ NOBODY
   pub waits : (own_at owns other).object ≡ NOBODY
   pub apart : person ≢ NOBODY → person ≢ other
   pub others : (i : ℕ) → i < n → i ≢ person → i ≢ other → (own_at owns i).object ≢ NOBODY
 
--- at these prices and this eps somebody's bid would be more than the greatest price
+-- at these prices and this eps some person's bid would be above the greatest price
 pub record IsAbove (r : FlatTable) (eps : ℤ) (prices : List ℤ) : Type 0 where
   pub person : ℕ
   pub known : person < length r.rows
@@ -74,7 +75,8 @@ pub record IsAbove (r : FlatTable) (eps : ℤ) (prices : List ℤ) : Type 0 wher
 abbrev pub AreHigher : List ℤ → List ℤ → Type 0
 AreHigher prices new = (k : ℕ) → price_at prices k ≤ℤ price_at new k
 
--- What a bid that was awarded comes to: the bidder has an object, and who has held it has none.
+-- The result of an awarded bid: the bidder has an object, the displaced holder has none, and the sum of the prices has
+-- risen.
 pub record IsAwarded (r : FlatTable) (eps : ℤ) (person : ℕ) (prices new : List ℤ) (sold : List ℕ)
     (owns left : List ShortArc) (displaced : ℕ) : Type 0 where
   pub stands : Stands r eps new sold left
@@ -84,7 +86,7 @@ pub record IsAwarded (r : FlatTable) (eps : ℤ) (person : ℕ) (prices new : Li
   pub below : displaced ≢ NOBODY → displaced < length r.rows
   pub higher : AreHigher prices new
 
--- and one that would be too high: nothing has changed
+-- the result of a bid above the greatest price: nothing has changed
 pub record IsTooHigh (r : FlatTable) (eps : ℤ) (prices new : List ℤ) (holders sold : List ℕ) (owns left : List ShortArc) : Type 0 where
   pub prices_are : new ≡ prices
   pub holders_are : sold ≡ holders

@@ -1,4 +1,4 @@
--- The phases of a run, one after another, and what is done between them.
+-- The phases of a run, one after another, and the steps between them.
 use Rattle.std.specs.Prelude.{ℕ, ℤ, ◌≡◌, ◌≤ℤ◌, List}
 use Rattle.auc_graph.specs.Assignment.{total}
 use Rattle.auc_rows.specs.Rows.{FlatTable}
@@ -7,24 +7,24 @@ use Rattle.auc_market.specs.Bids.{AreMadeWithin, State}
 use Rattle.auc_market.specs.Eps.{IsEpsOf}
 use Rattle.auc_market.specs.Market.{Stands, own_at}
 
--- a phase of at most so many bids, whole or in part
+-- a phase of at most this number of bids, whole or in part
 pub record IsPhase (r : FlatTable) (bids : ℕ) (s t : State) : Type 0 where
   pub eps : ℤ
   pub is_eps : IsEpsOf r eps
   pub stands : Stands r eps s.prices s.holders s.owns
   pub made : AreMadeWithin r eps bids s t
 
--- before a phase: at the same prices nobody has an object
+-- the opening of a phase: the prices stay, and no person has an object
 pub record IsOpened (s t : State) : Type 0 where
   pub prices : t.prices ≡ s.prices
   pub none : (i : ℕ) → (own_at t.owns i).object ≡ NOBODY
 
--- after a phase: each person has what he had, at prices that add up to no less
+-- price refinement after a phase: each person keeps the object, and the sum of the prices doesn't fall
 pub record IsRefined (s t : State) : Type 0 where
   pub owns : t.owns ≡ s.owns
   pub risen : total s.prices ≤ℤ total t.prices
 
--- phases of at most so many bids each lead from one state to another
+-- phases of at most this number of bids each lead from one state to another, with openings and refinements between them
 pub data ArePhases (r : FlatTable) (bids : ℕ) (s : State) : State → Type 0 where
   begins : (t : State) → t ≡ s → ArePhases r bids s t
   plays : (t u : State) → ArePhases r bids s t → IsPhase r bids t u → ArePhases r bids s u

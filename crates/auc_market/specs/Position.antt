@@ -1,4 +1,4 @@
--- What clauses see of a market, what always holds of it, and what each move comes to.
+-- What contracts see of a market, its invariants, and the result of each move.
 use Rattle.std.specs.Prelude.{Bool, true, ℕ, ℤ, pos, ◌≡◌, ◌≢◌, ◌⊎◌, ◌<◌, ◌≤◌, ◌≤ℤ◌, List, length}
 use Rattle.auc_graph.specs.Assignment.{total}
 use Rattle.auc_rows.specs.declared.arc.ShortArc.{ShortArc}
@@ -17,8 +17,8 @@ use Rattle.auc_market.specs.Phases.{IsOpened, IsPhase, IsRefined}
 use Rattle.auc_market.specs.Shortlist.{Kept}
 use Rattle.auc_market.specs.Way.{IsWay}
 
--- the rows, eps, the prices, who holds each object, by which arc each person holds his; and whether each had one once,
--- by which arcs then
+-- The rows, eps, the prices, the holder of each object, and the arc by which each person holds one. Also whether there
+-- is an incumbent, and its arcs.
 pub record Position : Type 0 where
   pub table : FlatTable
   pub eps : ℤ
@@ -42,13 +42,13 @@ pub record Law (p : Position) : Type 0 where
   pub eps : IsEpsOf p.table p.eps
   pub stands : Stands p.table p.eps p.prices p.holders p.owns
 
--- and each list of candidates is right, and the incumbent was held once
+-- the invariants of a market: the laws of its position, correct candidate lists, and an incumbent that was held once
 pub record IsMarket (p : Position) (lists : List Shortlist) (incumbent : Incumbent) : Type 0 where
   pub law : Law p
   pub kept : Kept p.table p.prices lists
   pub incumbent_is : IsIncumbent p.table incumbent
 
--- what a run begins with: these rows, and the last eps
+-- the beginning of a run: these rows, and the last eps, 1
 pub record Begins (r : FlatTable) (p : Position) : Type 0 where
   pub table : p.table ≡ r
   pub eps : p.eps ≡ pos 1
@@ -60,43 +60,44 @@ pub record IsFree (p : Position) (person : ℕ) : Type 0 where
   pub known : person < length p.table.rows
   pub none : (own_at p.owns person).object ≡ NOBODY
 
--- the same, or nobody
+-- a person who holds no object, or none
 pub record IsFreed (p : Position) (person : ℕ) : Type 0 where
   pub below : person ≢ NOBODY → person < length p.table.rows
   pub none : (own_at p.owns person).object ≡ NOBODY
 
--- A free person bids, and holds the object; who has held it is free.
+-- A free person bids and gets the object. The holder before is displaced.
 pub record IsBid (person : ℕ) (old new : Position) (displaced : ℕ) : Type 0 where
   pub table : new.table ≡ old.table
   pub eps : new.eps ≡ old.eps
   pub awarded : IsAwarded old.table old.eps person old.prices new.prices new.holders old.owns new.owns displaced
   pub made : IsBidMade old.table old.eps (state_at old) (state_at new)
 
--- A free person goes by an augmenting path, or stays; one person is free in his place, or none.
+-- A free person takes an augmenting path, or stays free. Afterwards one person is free instead, or none.
 pub record IsMove (person : ℕ) (old new : Position) (freed : ℕ) : Type 0 where
   pub table : new.table ≡ old.table
   pub eps : new.eps ≡ old.eps
   pub way : IsWay old.table old.eps person old.prices new.prices new.holders old.owns new.owns freed
 
--- bids, with paths between them, after which so many of those that might be made are left
+-- bids, with paths between them; of the bids allowed, this number is left
 pub record Spends (before left : ℕ) (old new : Position) : Type 0 where
   pub table : new.table ≡ old.table
   pub eps : new.eps ≡ old.eps
   pub spent : AreSpent old.table old.eps before left (state_at old) (state_at new)
 
--- whoever had an object, or began the chain, has one; or the bids have run out; or a bid would be too high
+-- The end of a chain. Each person who had an object has one, and so does the person who began the chain; or the bids
+-- have run out; or a bid would be above the greatest price.
 abbrev pub IsChain : ℕ → ℕ → Chain → Position → Position → Type 0
 IsChain first left Chain.Placed old new = (n : ℕ) → n ≤ length new.table.rows → HaveAllBut n old.owns first NOBODY → HaveObjects n new.owns
 IsChain first left Chain.Bids old new = left ≡ 0
 IsChain first left Chain.Ceiling old new = IsAbove new.table new.eps new.prices
 
--- the first n persons have objects, but for one who waits; or as above
+-- the first n persons have objects, but for one that waits; or a limit, as above
 abbrev pub AreServed : ℕ → ℕ → ℕ → Chain → Position → Type 0
 AreServed n left waits Chain.Placed new = (waits < length new.table.rows) × HaveAllBut n new.owns NOBODY waits
 AreServed n left waits Chain.Bids new = left ≡ 0
 AreServed n left waits Chain.Ceiling new = IsAbove new.table new.eps new.prices
 
--- all persons have objects; or as above
+-- all persons have objects; or a limit, as above
 abbrev pub AreSold : ℕ → Chain → Position → Type 0
 AreSold left Chain.Placed new = HaveObjects (length new.table.rows) new.owns
 AreSold left Chain.Bids new = left ≡ 0
@@ -104,28 +105,28 @@ AreSold left Chain.Ceiling new = IsAbove new.table new.eps new.prices
 
 -- ---- phases
 
--- a part of a phase, of at most so many bids
+-- a part of a phase, of at most this number of bids
 pub record IsSlice (bids : ℕ) (ending : Ending) (old new : Position) : Type 0 where
   pub table : new.table ≡ old.table
   pub eps : new.eps ≡ old.eps
   pub ended : IsEnding old.table bids (state_at old) ending new.prices new.owns
   pub counted : AreCounted old.table old.eps bids ending (state_at old) (state_at new)
 
--- a phase of at most so many bids, whole or in part
+-- a phase of at most this number of bids, whole or in part
 pub record IsTried (bids : ℕ) (old new : Position) : Type 0 where
   pub table : new.table ≡ old.table
   pub eps : new.eps ≡ old.eps
   pub phase : IsPhase old.table bids (state_at old) (state_at new)
   pub risen : total old.prices ≤ℤ total new.prices
 
--- and how it has ended; who watches it may have stopped it
+-- such a phase and its ending; a watch may have stopped it
 pub record IsPlayed (bids : ℕ) (before after : Bool) (ending : Ending) (old new : Position) : Type 0 where
   pub tried : IsTried bids old new
   pub sold : IsSold old.table ending new.owns
   pub ended : IsToldOr before after ending (IsEnding old.table bids (state_at old) ending new.prices new.owns)
 
--- The next phase begins at this eps: the prices stay, and nobody holds anything. What persons held is the incumbent,
--- where each had an object.
+-- The next phase begins at this eps: the prices stay, and no person holds an object. If each person held one, these
+-- arcs become the incumbent.
 pub record IsBegun (eps : ℤ) (old new : Position) : Type 0 where
   pub table : new.table ≡ old.table
   pub eps_is : new.eps ≡ eps
@@ -133,7 +134,7 @@ pub record IsBegun (eps : ℤ) (old new : Position) : Type 0 where
   pub none : (i : ℕ) → (own_at new.owns i).object ≡ NOBODY
   pub incumbent : HaveObjects (length old.owns) old.owns → (new.has_incumbent ≡ true) × (new.incumbent ≡ old.owns)
 
--- prices were refined: each person has what he had, or nobody holds anything any more
+-- price refinement: each person keeps the object, or afterwards no person holds one
 pub record IsRefinement (old new : Position) : Type 0 where
   pub table : new.table ≡ old.table
   pub refined : State
@@ -141,13 +142,13 @@ pub record IsRefinement (old new : Position) : Type 0 where
   pub after : (state_at new ≡ refined) ⊎ IsOpened refined (state_at new)
   pub risen : total old.prices ≤ℤ total new.prices
 
--- each person has kept what he held, and is within 1 of his best
+-- a complete price refinement: at eps 1 each person still holds an object, and so is within 1 of the best
 pub record IsRefinedWhole (new : Position) : Type 0 where
   pub eps_is : new.eps ≡ pos 1
   pub have : HaveObjects (length new.table.rows) new.owns
 
--- what such a market is given up for: what each person holds, where all have one; else that, or the incumbent, at the
--- same prices
+-- What a market hands on at its end. Sold: its prices, holders and arcs. Stopped: the same prices, with the incumbent
+-- if there is one, else with what is held.
 abbrev pub AreHandedOn : Ending → Position → List ℤ → List ℕ → List ShortArc → Type 0
 AreHandedOn Ending.Sold p prices holders owns = (prices ≡ p.prices) × (holders ≡ p.holders) × (owns ≡ p.owns)
 AreHandedOn (Ending.Stopped reason) p prices holders owns =

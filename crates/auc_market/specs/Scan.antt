@@ -1,4 +1,4 @@
--- One pass over a row.
+-- One pass over a row: the least value and the second least.
 use Rattle.std.specs.Prelude.{ℕ, ℤ, pos, neg_ℤ, ◌≡◌, ◌≢◌, ◌⊎◌, ◌+◌, ◌-◌, ◌<◌, ◌^◌, ◌≤ℤ◌, ◌<ℤ◌, List, length, All, slice_index_or}
 use Rattle.auc_graph.specs.Dual.{price_at}
 use Rattle.auc_graph.specs.Price.{IsPrice}
@@ -7,52 +7,52 @@ use Rattle.auc_rows.specs.declared.arc.ShortArc.{ShortArc}
 use Rattle.auc_rows.specs.Rows.{IsShort}
 use Rattle.auc_market.specs.declared.scan.Found.{Found}
 
--- what an arc is worth at prices
+-- the value of an arc at prices: its scaled cost plus the price of its object
 abbrev pub short_value : ℤ → List ℤ → ShortArc → ℤ
 short_value scale prices s = value_at scale (price_at prices) s.cost s.object
 
--- what stands for the value of no arc
+-- the value that stands for no arc
 abbrev pub endless : ℤ
 endless = pos (2 ^ 63 - 1)
 
--- the values that costs and prices within the limits can give
+-- the range of values that costs and prices within the limits can give
 pub record IsValue (v : ℤ) : Type 0 where
   pub low : neg_ℤ (pos (2 ^ 44)) ≤ℤ v
   pub high : v ≤ℤ pos (2 ^ 61 + 2 ^ 44)
 
--- by what costs are scaled: one more than there are persons
+-- the range of the factor that scales costs, one more than the number of persons
 pub record IsScale (scale : ℤ) : Type 0 where
   pub low : pos 1 ≤ℤ scale
   pub high : scale ≤ℤ pos 10001
 
--- arcs to objects that have these prices
+-- a row whose arcs lead to objects with prices, all in range
 pub record IsPricedRow (scale : ℤ) (prices : List ℤ) (row : List ShortArc) : Type 0 where
   pub scale_is : IsScale scale
   pub arcs : All (IsShort (length prices)) row
   pub within : All IsPrice prices
 
--- what is read past the end of a row
+-- the arc that is read past the end of a row
 abbrev pub no_arc : ShortArc
 no_arc = record { object = 0; cost = pos 0 }
 
--- one value more, by cases
+-- least and second least value after one more value, by cases
 pub record Lowered (f : Found) (v : ℤ) (place : ℕ) (r : Found) : Type 0 where
   pub wins : v <ℤ f.value → r ≡ record { value = v; second = f.value; place = place }
   pub next : f.value ≤ℤ v → v <ℤ f.second → r ≡ record { value = f.value; second = v; place = f.place }
   pub stays : f.value ≤ℤ v → f.second ≤ℤ v → r ≡ f
 
--- two values more, of arcs that stand one after the other
+-- the same after two more values, of consecutive arcs
 abbrev pub LoweredTwice : Found → ℤ → ℤ → ℕ → Found → Type 0
 LoweredTwice f one other place r = (between : Found) × Lowered f one place between × Lowered between other (place + 1) r
 
--- no more than one of the first n arcs of a row is worth
+-- a value that is at most that of one of the first n arcs of a row
 pub record IsWorth (val : ShortArc → ℤ) (row : List ShortArc) (n : ℕ) (v : ℤ) : Type 0 where
   pub range : IsValue v
   pub place : ℕ
   pub known : place < n
   pub below : v ≤ℤ val (slice_index_or row place no_arc)
 
--- of the first n arcs of a row the one that stands here is worth least, and no other one less than the second
+-- the least value of the first n arcs and its place, and a second value that no other of these arcs is below
 pub record IsFound (val : ShortArc → ℤ) (row : List ShortArc) (n : ℕ) (f : Found) : Type 0 where
   pub known : f.place < n
   pub is : f.value ≡ val (slice_index_or row f.place no_arc)

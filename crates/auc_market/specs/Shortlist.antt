@@ -1,4 +1,4 @@
--- Lists of candidates: what they say of a row, and that it stays true while prices rise.
+-- Candidate lists: what they say of a row, which stays true while prices rise.
 use Rattle.std.specs.Prelude.{ℕ, ℤ, pos, ◌≡◌, ◌⊎◌, ◌≤ℤ◌, List, [], All, Contains, slice_index_or}
 use Rattle.auc_rows.specs.declared.arc.ShortArc.{ShortArc}
 use Rattle.auc_rows.specs.Rows.{FlatTable, flat_row_of, scale_in}
@@ -6,14 +6,15 @@ use Rattle.auc_market.specs.declared.best.Best.{Best}
 use Rattle.auc_market.specs.declared.shortlist.Shortlist.{Shortlist}
 use Rattle.auc_market.specs.Scan.{IsValue, endless, short_value}
 
--- no more than an arc of the row is worth
+-- a value that is at most that of an arc of the row
 pub record IsSecond (val : ShortArc → ℤ) (row : List ShortArc) (v : ℤ) : Type 0 where
   pub range : IsValue v
   pub arc : ShortArc
   pub listed : Contains row arc
   pub below : v ≤ℤ val arc
 
--- An arc of the row and what it is worth, and what no other one is worth less than: the second, or there is none.
+-- A best arc of the row, its value, and a second value that no other arc is below. Without another arc there is no
+-- second.
 pub record IsBest (val : ShortArc → ℤ) (row : List ShortArc) (b : Best) : Type 0 where
   pub listed : Contains row b.arc
   pub is : b.value ≡ val b.arc
@@ -25,23 +26,22 @@ pub record IsBest (val : ShortArc → ℤ) (row : List ShortArc) (b : Best) : Ty
 abbrev pub no_list : Shortlist
 no_list = record { bound = pos 0; arcs = record { items = [] } }
 
--- a list with no arc
+-- an empty list, which says nothing
 abbrev pub SaysNothing : Shortlist → Type 0
 SaysNothing l = l.arcs.items ≡ []
 
--- what a list says of the arcs that were seen: its arcs are among them, and each other one is worth no less than the
--- bound
+-- a list of the arcs seen so far: its arcs are among them, and the value of each other one is the bound at least
 pub record Gathered (val : ShortArc → ℤ) (seen : List ShortArc) (l : Shortlist) : Type 0 where
   pub members : All (Contains seen) l.arcs.items
   pub rest : All (λ b. Contains l.arcs.items b ⊎ (l.bound ≤ℤ val b)) seen
 
--- what a list says of a row: it has no arc, or that
+-- a correct list of a row: it is empty, or a list of the arcs of the whole row
 abbrev pub Says : (ShortArc → ℤ) → List ShortArc → Shortlist → Type 0
 Says val row l = SaysNothing l ⊎ Gathered val row l
 
 abbrev pub list_at : List Shortlist → ℕ → Shortlist
 list_at lists i = slice_index_or lists i no_list
 
--- each person's list is right at these prices
+-- each person's list is correct at these prices
 abbrev pub Kept : FlatTable → List ℤ → List Shortlist → Type 0
 Kept r prices lists = (i : ℕ) → Says (short_value (scale_in r) prices) (flat_row_of r i) (list_at lists i)

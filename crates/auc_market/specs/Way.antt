@@ -1,12 +1,12 @@
--- Paths, as the phase above sees them: who is free after one.
+-- Augmenting paths as a phase sees them: which person is free after one.
 use Rattle.std.specs.Prelude.{ℕ, ℤ, ◌≡◌, ◌≢◌, ◌<◌, List, length}
 use Rattle.auc_rows.specs.declared.arc.ShortArc.{ShortArc}
 use Rattle.auc_rows.specs.Rows.{FlatTable}
 use Rattle.auc_market.specs.declared.holdings.TheConstants.{NOBODY}
 use Rattle.auc_market.specs.Market.{AreHigher, HaveAllBut, Stands, own_at}
 
--- What a path of a free person comes to, whole or in part: what holds between two bids holds, no price has fallen, and
--- one person is free in his place, or none.
+-- The result of an augmenting path of a free person, whole or in part. The invariant between two bids holds, no price
+-- has fallen, and one person is free instead, or none.
 pub record IsWay (r : FlatTable) (eps : ℤ) (person : ℕ) (prices new : List ℤ) (sold : List ℕ)
     (owns left : List ShortArc) (free : ℕ) : Type 0 where
   pub stands : Stands r eps new sold left

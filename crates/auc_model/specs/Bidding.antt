@@ -1,4 +1,4 @@
--- Bid: a shard of the persons asks its person that has been free longest for a bid, and puts a letter into its outbox.
+-- Bid: a shard of the persons asks the person that has been free longest for a bid, and puts a letter into its outbox.
 use Rattle.std.specs.Prelude.{ℕ, ◌-◌, ◌^◌, ◌<◌, ◌≤◌, ◌≡◌, ◌≢◌, ◌⊎◌, ℤ, pos, ◌≤ℤ◌, ◌<ℤ◌, true, false, List, [], ◌∷◌}
 use Rattle.auc_graph.specs.declared.rows.RowArc.{RowArc}
 use Rattle.auc_graph.specs.Bid.{IsBid}
@@ -12,11 +12,11 @@ use Rattle.auc_model.specs.declared.turn.TurnReply.{TurnReply}
 use Rattle.auc_model.specs.Put.{put}
 use Rattle.auc_model.specs.World.{Phase, World, scale}
 
--- what person i bids, at the copies of the shard s
+-- the bid of person i at the copies of the shard s
 abbrev pub Bids : Phase → World → ℕ → ℕ → RowArc → ℤ → Type 0
 Bids g w s i arc amount = IsBid (scale g) g.spread g.eps (w.copy s) (g.row i) arc amount
 
--- why person i can't bid, in this order: no bid is left, he has no arc, he would bid above the greatest price
+-- why person i can't bid, in this order: no bid is left, the row is empty, the bid would be above the greatest price
 abbrev pub Stops : Phase → World → ℕ → ℕ → Why → Type 0
 Stops g w s i Why.Bids = w.bids_left s ≡ 0
 Stops g w s i Why.Stuck = (w.bids_left s ≢ 0) × (g.row i ≡ [])
@@ -31,11 +31,11 @@ Stops g w s i Why.Stray = ⊥
 abbrev pub SomeoneStuck : Phase → Type 0
 SomeoneStuck g = (i : ℕ) × (i < g.persons) × (g.row i ≡ [])
 
--- the world when the shard s has made a Stop
+-- the world after the shard s has made a Stop
 abbrev pub after_stop : World → ℕ → Why → World
 after_stop w s y = record w { has_stopped = put w.has_stopped s true; person_out = put w.person_out s (to_hub (Letter.Stop y) ∷ []) }
 
--- the world when person i of the shard s has bid: he waits, rest are the free persons, and a bid is used up
+-- the world after person i of the shard s has bid: i waits, rest are the free persons, and a bid is used up
 abbrev pub after_bid : Phase → World → ℕ → ℕ → List ℕ → RowArc → ℤ → World
 after_bid g w s i rest arc amount = record w {
   state = put w.state i (PersonState.Waits arc.object);
@@ -44,14 +44,15 @@ after_bid g w s i rest arc amount = record w {
   person_out = put w.person_out s (bid_out g.shards (bid_of i arc.arc arc.object amount) ∷ []);
 }
 
--- The shard s may bid: it is there, its outbox is empty, and it has made no Stop; i has been free longest, before rest.
+-- The shard s may bid: it exists, its outbox is empty, and it has made no Stop. Person i has been free longest, before
+-- rest.
 pub record MayBid (g : Phase) (w : World) (s i : ℕ) (rest : List ℕ) : Type 0 where
   pub known : s < g.shards
   pub empty : w.person_out s ≡ []
   pub going : w.has_stopped s ≡ false
   pub first : w.idle s ≡ i ∷ rest
 
--- Bid(s)
+-- Bid(s): nothing happens, or the shard makes a Stop, or its person bids
 pub data BidTurn (g : Phase) (w : World) (s : ℕ) (r : TurnReply) (v : World) : Type 0 where
   barred : ((g.shards ≤ s) ⊎ (w.person_out s ≢ []) ⊎ (w.has_stopped s ≡ true) ⊎ (w.idle s ≡ []))
       → r ≡ TurnReply.Nothing → v ≡ w → BidTurn g w s r v

@@ -1,5 +1,5 @@
 -- The letters under way. A channel leads from one sender to one box: the letters that wait in the lane, those that a
--- closed box has swallowed, and those in the sender's outbox.
+-- closed box has dropped, and those in the sender's outbox.
 use Rattle.std.specs.Prelude.{ℕ, ◌+◌, ◌-◌, ◌*◌, ◌%◌, ◌<◌, ◌≡◌, ◌==◌, ◌&&◌, nat_lt, ℤ, Bool, List, [], ◌∷◌, ◌++◌, Option, Some, None, if◌then◌else◌, filter_map, length}
 use Rattle.auc_letters.specs.declared.letter.Letter.{Letter}
 use Rattle.auc_letters.specs.declared.letter.Why.{Why}
@@ -15,7 +15,7 @@ use Rattle.auc_model.specs.Letters.{same_to, letters_to, told_answer, told_price
 use Rattle.auc_model.specs.Places.{Answer, Places}
 use Rattle.auc_model.specs.Prices.{Prices}
 
--- what waits in the lane of a box and a sender, if there is such a sender
+-- the letters that wait in the lane of a box and a sender, if there is such a sender
 abbrev pub waiting : {T : Type 0} → Mail T → ℕ → ℕ → List T
 waiting m b x = if nat_lt x m.senders then (lane_of m b x).waiting else []
 
@@ -23,12 +23,12 @@ waiting m b x = if nat_lt x m.senders then (lane_of m b x).waiting else []
 abbrev pub out_of : Phase → World → ℕ → List Out
 out_of g w x = if nat_lt x g.shards then w.person_out x else (if nat_lt x (2 * g.shards) then w.object_out (x - g.shards) else [])
 
--- Letters that met a closed box, by where they were to go and who sent them. They stand after what waits there, and are
--- never taken.
+-- Letters that met a closed box, by address and sender. They come after the letters that wait there, and are never
+-- taken.
 abbrev pub Lost : Type 0
 Lost = To → ℕ → List Letter
 
--- all letters on each channel, the next one to come first
+-- all letters on each channel, the next one to arrive first
 abbrev pub Channels : Type 0
 Channels = To → ℕ → List Letter
 
@@ -39,15 +39,15 @@ channels g w lost t x = waiting (mail_of w t) (box_of t) x ++ (lost t x ++ lette
 abbrev pub send : Channels → ℕ → List Out → Channels
 send c x os = λ t y. if y == x then c t y ++ letters_to t os else c t y
 
--- the channel from x to t is now ls
+-- the channel from x to t is replaced by ls
 abbrev pub set_channel : Channels → To → ℕ → List Letter → Channels
 set_channel c t x ls = λ u y. if same_to u t && (y == x) then ls else c u y
 
--- what is under way for a person and an object, or a person shard and an object
+-- the answer, if both tests hold
 abbrev pub if_both : Bool → Bool → Answer → Option Answer
 if_both b c a = if b && c then Some a else None
 
--- the answer, if it is one to this person about this object
+-- the answer, if it is for this person and about this object
 abbrev pub for_pair : ℕ → ℕ → Option (Answer × ℕ × ℕ × ℤ) → Option Answer
 for_pair i j None = None
 for_pair i j (Some (a, k, l, p)) = if_both (k == i) (l == j) a
@@ -64,7 +64,7 @@ bid_by i j (Letter.Price l p) = None
 bid_by i j (Letter.First l) = None
 bid_by i j (Letter.Stop y) = None
 
--- the price, if it is one of this object
+-- the price, if it is that of this object
 abbrev pub about : ℕ → Option (ℕ × ℤ) → Option ℤ
 about j None = None
 about j (Some (k, p)) = if k == j then Some p else None
@@ -72,7 +72,7 @@ about j (Some (k, p)) = if k == j then Some p else None
 abbrev pub price_about : ℕ → Letter → Option ℤ
 price_about j l = about j (told_price l)
 
--- what f sees on a channel
+-- what f reads from the letters of a channel, in order
 abbrev pub view : {Y : Type 0} → (Letter → Option Y) → Channels → To → ℕ → List Y
 view f c t x = filter_map f (c t x)
 
@@ -89,14 +89,15 @@ abbrev pub person_of : Option Held → Option ℕ
 person_of None = None
 person_of (Some h) = Some h.person
 
--- what is seen of a world and its channels by persons and objects, and by prices
+-- a world and its channels, seen by persons and objects, and seen by prices
 abbrev pub places : Phase → World → Channels → Places
 places g w c = record { state = w.state; holder = λ j. person_of (w.holder j); bids = bids_in g c; answers = answers_in g c }
 
 abbrev pub prices : Phase → World → Channels → Prices
 prices g w c = record { price = w.price; copy = w.copy; news = news_in g c }
 
--- Each letter is on the right channel, and its numbers are in range; and who stops for want of an arc tells the truth.
+-- Each letter is on the right channel, and its numbers are in range. A Stop for want of an arc is sent only if some
+-- person has none.
 abbrev pub ToPerson : Phase → ℕ → ℕ → ℕ → ℕ → ℤ → Type 0
 ToPerson g s x i j p = (i < g.persons) × (i % g.shards ≡ s) × (j < g.objects) × (x ≡ g.shards + j % g.shards) × IsPrice p
 

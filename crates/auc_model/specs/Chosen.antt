@@ -6,7 +6,7 @@ use Rattle.auc_graph.specs.Problem.{Problem}
 use Rattle.auc_letters.specs.declared.state.Held.{Held}
 use Rattle.auc_model.specs.World.{World}
 
--- the arc's person holds its object, by just this arc of the problem
+-- the arc's person holds its object, by exactly this arc of the problem
 pub record IsHeldArc (p : Problem) (w : World) (arc : Arc) : Type 0 where
   pub held : Held
   pub holds : w.holder arc.object ≡ Some held

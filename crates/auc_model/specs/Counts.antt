@@ -1,4 +1,4 @@
--- Letters under way, counted by their kinds, and persons and objects, counted by how they stand.
+-- Letters under way, counted by kind, and persons and objects, counted by state.
 use Rattle.std.specs.Prelude.{ℕ, zero, suc, ◌+◌, ◌≡◌, Option, Some, None, sum_by}
 use Rattle.auc_letters.specs.declared.letter.Letter.{Letter}
 use Rattle.auc_letters.specs.declared.out.To.{To}
@@ -9,12 +9,12 @@ use Rattle.auc_model.specs.World.{Phase, World, senders}
 use Rattle.auc_model.specs.Letters.{bid_one, award_one, refused_one, outbid_one, first_one}
 use Rattle.auc_model.specs.Channels.{Channels}
 
--- f 0 + f 1 + .., n of them
+-- the sum f 0 + f 1 + .. of n terms
 abbrev pub total : (ℕ → ℕ) → ℕ → ℕ
 total f zero = 0
 total f (suc n) = total f n + f n
 
--- how much all letters under way weigh
+-- the total weight of all letters under way
 abbrev pub everywhere : Phase → (Letter → ℕ) → Channels → ℕ
 everywhere g f c =
     (total (λ q. total (λ x. sum_by f (c (To.Object q) x)) (senders g)) g.shards + total (λ s. total (λ x. sum_by f
@@ -44,7 +44,9 @@ holding_persons g w = total (λ i. holds_one (w.state i)) g.persons
 abbrev pub held_objects : Phase → World → ℕ
 held_objects g w = total (λ j. held_one (w.holder j)) g.objects
 
--- what is under way, counted against the tables
+-- Letters under way agree with the states. Bids, awards and refusals are as many as waiting persons. Held objects and
+-- outbids are as many as holding persons and awards. First letters, those counted by the hub and those under way, are
+-- as many as held objects.
 pub record Counts (g : Phase) (w : World) (c : Channels) : Type 0 where
   pub who_waits : everywhere g bid_one c + everywhere g award_one c + everywhere g refused_one c ≡ waiting_persons g w
   pub who_holds : everywhere g outbid_one c + held_objects g w ≡ holding_persons g w + everywhere g award_one c

@@ -10,7 +10,7 @@ use Rattle.auc_model.specs.Put.{put, put2}
 use Rattle.auc_model.specs.World.{Phase, World, ended}
 use Rattle.auc_model.specs.Mails.{Takes, TakesNone}
 
--- an answer to a person about an object fits where he stands as it wants
+-- an answer to a person about an object fits: numbers are in range, and the person is in the state wanted
 abbrev pub FitsAnswer : Phase → World → ℕ → ℕ → ℕ → ℤ → PersonState → Type 0
 FitsAnswer g w s i j p wanted = (i < g.persons) × (i % g.shards ≡ s) × (j < g.objects) × IsPrice p × (w.state i ≡ wanted)
 
@@ -24,7 +24,7 @@ FitsLetter g w s (Letter.Bid i a j p) = ⊥
 FitsLetter g w s (Letter.First j) = ⊥
 FitsLetter g w s (Letter.Stop y) = ⊥
 
--- its price is below the shard's copy
+-- the price of the letter is below the shard's copy
 abbrev pub Falls : World → ℕ → Letter → Type 0
 Falls w s (Letter.Award i j p) = p <ℤ w.copy s j
 Falls w s (Letter.Refused i j p) = p <ℤ w.copy s j
@@ -34,7 +34,7 @@ Falls w s (Letter.Bid i a j p) = ⊥
 Falls w s (Letter.First j) = ⊥
 Falls w s (Letter.Stop y) = ⊥
 
--- its price is no less than the shard's copy
+-- the price of the letter is no less than the shard's copy
 abbrev pub Rises : World → ℕ → Letter → Type 0
 Rises w s (Letter.Award i j p) = w.copy s j ≤ℤ p
 Rises w s (Letter.Refused i j p) = w.copy s j ≤ℤ p
@@ -44,7 +44,7 @@ Rises w s (Letter.Bid i a j p) = ⊥
 Rises w s (Letter.First j) = ⊥
 Rises w s (Letter.Stop y) = ⊥
 
--- person i of the shard s holds j; he is free, and the last of those who are
+-- person i of the shard s now holds j; or, below, it is free, and the last in the list of free persons
 abbrev pub held_after : World → ℕ → ℕ → ℕ → ℤ → World
 held_after w s i j p = record w { state = put w.state i (PersonState.Holds j); copy = put2 w.copy s j p }
 
@@ -53,7 +53,7 @@ free_after w s i j p =
     record w
     { state = put w.state i PersonState.Free; idle = put w.idle s (w.idle s ++ i ∷ []); copy = put2 w.copy s j p }
 
--- the world when the shard s has heard a letter that fits: each sets the copy to its price
+-- the world after the shard s has taken a letter that fits: the copy becomes the letter's price
 abbrev pub after_letter : World → ℕ → Letter → World
 after_letter w s (Letter.Award i j p) = held_after w s i j p
 after_letter w s (Letter.Refused i j p) = free_after w s i j p
@@ -63,7 +63,7 @@ after_letter w s (Letter.Bid i a j p) = w
 after_letter w s (Letter.First j) = w
 after_letter w s (Letter.Stop y) = w
 
--- PersonTake(s)
+-- PersonTake(s): no letter, a letter that fits, one that doesn't, or one whose price is below the copy
 pub data PersonTakeTurn (g : Phase) (w : World) (s : ℕ) (r : TurnReply) (v : World) : Type 0 where
   no_letter : ((g.shards ≤ s) ⊎ TakesNone w.persons_mail s) → r ≡ TurnReply.Nothing → v ≡ w → PersonTakeTurn g w s r v
   hears : (x k : ℕ) (l : Letter) (m : Mail Letter) → s < g.shards → Takes w.persons_mail s x k l m

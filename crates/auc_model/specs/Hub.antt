@@ -12,14 +12,14 @@ use Rattle.auc_model.specs.declared.turn.TurnReply.{TurnReply}
 use Rattle.auc_model.specs.World.{Phase, World, first_end, ended}
 use Rattle.auc_model.specs.Mails.{Takes, TakesNone, mail_named, with_mail_named}
 
--- one First letter more, up to the number of persons; the last one ends the phase
+-- one more First letter is counted, up to the number of persons; the last one ends the phase
 abbrev pub counted : Phase → World → World
 counted g w =
     if nat_lt w.count g.persons then
     (record w { count = w.count + 1; end = if (w.count + 1) == g.persons then first_end w.end End.All else w.end })
     else w
 
--- the world when the hub has dealt with a letter
+-- the world after the hub has taken a letter
 abbrev pub hub_after : Phase → Letter → World → World
 hub_after g (Letter.First j) w = counted g w
 hub_after g (Letter.Stop y) w = ended w y
@@ -29,7 +29,7 @@ hub_after g (Letter.Refused i j p) w = ended w Why.Stray
 hub_after g (Letter.Outbid i j p) w = ended w Why.Stray
 hub_after g (Letter.Price j p) w = ended w Why.Stray
 
--- a letter that the hub waits for
+-- the letter is of a kind that the hub expects
 abbrev pub IsForHub : Letter → Type 0
 IsForHub (Letter.First j) = Unit {0}
 IsForHub (Letter.Stop y) = Unit {0}

@@ -1,4 +1,4 @@
--- What every turn of the world keeps.
+-- The invariants of the world, which every turn keeps.
 use Rattle.std.specs.Prelude.{ℕ, ◌<◌, ◌≡◌, pos, ◌≤ℤ◌, [], Option, Some, None, length}
 use Rattle.auc_mail.specs.Mail.{Mail, IsOpen, IsWhole}
 use Rattle.auc_letters.specs.declared.letter.Letter.{Letter}
@@ -17,7 +17,7 @@ use Rattle.auc_model.specs.Channels.{Lost, Channels, channels, places, prices, A
 use Rattle.auc_model.specs.Counts.{Counts}
 use Rattle.auc_model.specs.SlackBids.{SlackLetter, AllLetters, SlackHolders}
 
--- no guard was hit, and the world stopped for want of an arc only where somebody has none
+-- no guard was hit, and the phase ended for want of an arc only if some person has none
 abbrev pub Sound : Phase → Option End → Type 0
 Sound g None = Unit {0}
 Sound g (Some End.All) = Unit {0}
@@ -30,7 +30,7 @@ Sound g (Some (End.Stopped Why.Trail)) = ⊥
 Sound g (Some (End.Stopped Why.Fell)) = ⊥
 Sound g (Some (End.Stopped Why.Stray)) = ⊥
 
--- of a world and the letters under way in it
+-- the invariant of a world and the letters under way in it
 pub record Inv (g : Phase) (w : World) (c : Channels) : Type 0 where
   pub routed : AllRouted g c
   pub never_falls : NeverFalls (prices g w c)
@@ -44,11 +44,11 @@ pub record Inv (g : Phase) (w : World) (c : Channels) : Type 0 where
   pub slack_holders : SlackHolders g w
   pub sound : Sound g w.end
 
--- letters are lost at closed boxes alone
+-- letters are lost only at closed boxes
 abbrev pub Open : World → Lost → Type 0
 Open w lost = (t : To) (x : ℕ) → IsOpen (mail_of w t) (box_of t) → lost t x ≡ []
 
--- so many boxes, and a lane for each box and sender
+-- the mail has this number of boxes, and a lane for each box and sender
 pub record Shaped (g : Phase) (m : Mail Letter) (boxes : ℕ) : Type 0 where
   pub boxes_are : length m.accepting ≡ boxes
   pub senders_are : m.senders ≡ senders g
@@ -59,7 +59,7 @@ pub record Shapes (g : Phase) (w : World) : Type 0 where
   pub persons : Shaped g w.persons_mail g.shards
   pub hub : Shaped g w.hub_mail 1
 
--- what every turn keeps
+-- the invariant of a world, for some letters lost at closed boxes
 pub record Kept (g : Phase) (w : World) : Type 0 where
   pub shapes : Shapes g w
   pub lost : Lost

@@ -1,4 +1,4 @@
--- What a letter says: whom it is for, what it tells, and of which kind it is.
+-- The content of a letter: its address, its price or answer, and its kind.
 use Rattle.std.specs.Prelude.{ℕ, ◌==◌, ℤ, Bool, true, false, List, [], ◌∷◌, Option, Some, None, if◌then◌else◌}
 use Rattle.auc_letters.specs.declared.letter.Letter.{Letter}
 use Rattle.auc_letters.specs.declared.out.To.{To}
@@ -16,12 +16,12 @@ same_to To.Hub To.Hub = true
 same_to To.Hub (To.Person t) = false
 same_to To.Hub (To.Object t) = false
 
--- the letters of an outbox that go there, in order
+-- the letters of an outbox to this address, in order
 abbrev pub letters_to : To → List Out → List Letter
 letters_to t [] = []
 letters_to t (o ∷ os) = if same_to t o.to then o.letter ∷ letters_to t os else letters_to t os
 
--- the object and the price that a letter tells to a shard of the persons
+-- the object and the price that a letter brings to a shard of the persons
 abbrev pub told_price : Letter → Option (ℕ × ℤ)
 told_price (Letter.Award i j p) = Some (j, p)
 told_price (Letter.Refused i j p) = Some (j, p)
@@ -31,7 +31,7 @@ told_price (Letter.Bid i a j p) = None
 told_price (Letter.First j) = None
 told_price (Letter.Stop y) = None
 
--- the answer to a person about an object, with its price
+-- the answer that a letter brings to a person about an object, with its price
 abbrev pub told_answer : Letter → Option (Answer × ℕ × ℕ × ℤ)
 told_answer (Letter.Award i j p) = Some (Answer.Award, i, j, p)
 told_answer (Letter.Refused i j p) = Some (Answer.Refused, i, j, p)
@@ -41,7 +41,7 @@ told_answer (Letter.Bid i a j p) = None
 told_answer (Letter.First j) = None
 told_answer (Letter.Stop y) = None
 
--- one for a letter of the kind, and none for any other
+-- 1 for a letter of the kind, and 0 for any other
 abbrev pub bid_one : Letter → ℕ
 bid_one (Letter.Bid i a j p) = 1
 bid_one (Letter.Award i j p) = 0

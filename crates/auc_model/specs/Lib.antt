@@ -12,7 +12,7 @@ pub mod Schedule
 pub mod Slack
 pub mod Still
 pub mod Chosen
--- what every turn keeps
+-- the invariants that every turn keeps
 pub mod Letters
 pub mod Places
 pub mod Prices
@@ -21,5 +21,5 @@ pub mod Counts
 pub mod SlackBids
 pub mod Invariants
 pub mod Room
--- what the turns of a round use up
+-- the measure of work that the turns of a round use up
 pub mod Work

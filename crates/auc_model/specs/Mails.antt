@@ -1,4 +1,4 @@
--- The three mails of a world and its outboxes: which box a letter goes to, and who sends it.
+-- The three mails of a world and its outboxes: the box to which a letter goes, and its sender.
 use Rattle.std.specs.Prelude.{ℕ, ◌+◌, ◌⊎◌, List}
 use Rattle.auc_mail.specs.Mail.{Mail}
 use Rattle.auc_mail.specs.Step.{Step}
@@ -12,7 +12,7 @@ use Rattle.auc_model.specs.declared.turn.MailName.{MailName}
 use Rattle.auc_model.specs.Put.{put}
 use Rattle.auc_model.specs.World.{Phase, World}
 
--- the mail that a letter goes into, and the box in it; the hub's mail has one box
+-- the mail to which a letter goes, and the box in it; the hub's mail has one box
 abbrev pub mail_of : World → To → Mail Letter
 mail_of w (To.Person s) = w.persons_mail
 mail_of w (To.Object q) = w.objects_mail
@@ -60,8 +60,8 @@ abbrev pub with_outbox : World → Shard → List Out → World
 with_outbox w (PersonShard s) out = record w { person_out = put w.person_out s out }
 with_outbox w (ObjectShard q) out = record w { object_out = put w.object_out q out }
 
--- A take from box b gives the letter l of the sender x, its number k in the lane, and leaves n. Any sender may be the
--- one.
+-- A take from box b gives the letter l of the sender x, with its number k in the lane, and leaves n. Any sender may be
+-- x.
 abbrev pub Takes : Mail Letter → ℕ → ℕ → ℕ → Letter → Mail Letter → Type 0
 Takes m b x k l n = Step m (Call.Take b) (Reply.Took (Taken.Letter x k l)) n
 

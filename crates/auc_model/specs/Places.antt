@@ -1,5 +1,5 @@
--- Persons and objects without shards: how each person stands to each object, by his own state, by the answers that are
--- under way to him, and by what the object's side knows.
+-- Persons and objects without shards. The state of a pair of a person and an object follows from the person's state,
+-- from the answers under way, and from what the object's shard knows.
 use Rattle.std.specs.Prelude.{ℕ, zero, suc, ◌+◌, ◌==◌, ◌≡◌, ◌≢◌, Bool, true, false, List, [], ◌∷◌, ◌++◌, Option, Some, None, if◌then◌else◌}
 use Rattle.auc_letters.specs.declared.state.PersonState.{PersonState}
 use Rattle.auc_letters.specs.declared.state.PersonState.TheVariants.{Free, Waits, Holds}
@@ -11,7 +11,7 @@ pub data Answer : Type 0 where
   Refused : Answer
   Outbid : Answer
 
--- how a person stands to one object
+-- the state of a person towards one object
 pub data PairState : Type 0 where
   Unassigned : PairState
   Waiting : PairState
@@ -28,19 +28,19 @@ pair_after Holding Refused = Wrong
 pair_after Unassigned a = Wrong
 pair_after Wrong a = Wrong
 
--- the state of the pair after the answers under way
+-- the state of the pair after all answers under way
 abbrev pub replay : PairState → List Answer → PairState
 replay s [] = s
 replay s (a ∷ xs) = replay (pair_after s a) xs
 
--- the state of the pair by the state that the person's shard keeps
+-- the state of the pair, from the state that the person's shard keeps
 abbrev pub pair_state : PersonState → ℕ → PairState
 pair_state Free j = Unassigned
 pair_state (Waits k) j = if k == j then Waiting else Unassigned
 pair_state (Holds k) j = if k == j then Holding else Unassigned
 
--- the state of the pair that the object's side knows: whether the object is held by the person, and how many of the
--- person's bids on it are under way
+-- the state of the pair that the object's side knows, by whether the person holds the object, and the number of the
+-- person's bids on it that are under way
 abbrev pub pair_known : Bool → ℕ → PairState
 pair_known true zero = Holding
 pair_known true (suc n) = Wrong
@@ -52,12 +52,12 @@ abbrev pub is_held_by : Option ℕ → ℕ → Bool
 is_held_by None i = false
 is_held_by (Some k) i = k == i
 
--- what the answers under way make of the person's own state is what the object's side knows
+-- both sides agree: the person's own state after the answers under way is the state that the object's side knows
 pub record Agree (s : PairState) (answers : List Answer) (known : PairState) : Type 0 where
   pub same : replay s answers ≡ known
   pub right : known ≢ Wrong
 
--- persons and objects, without shards: by person, by object, or by both
+-- the state of persons and objects without shards: by person, by object, or by pair
 pub record Places : Type 0 where
   pub state : ℕ → PersonState
   pub holder : ℕ → Option ℕ
@@ -78,11 +78,11 @@ bid w i j = record { state = put w.state i (Waits j); holder = w.holder; bids = 
 abbrev pub refuse : Places → ℕ → ℕ → ℕ → Places
 refuse w i j n = record { state = w.state; holder = w.holder; bids = put2 w.bids i j n; answers = answered w i j Refused }
 
--- object j, held by nobody, goes to person i
+-- object j, which has no holder, goes to person i
 abbrev pub award : Places → ℕ → ℕ → ℕ → Places
 award w i j n = record { state = w.state; holder = put w.holder j (Some i); bids = put2 w.bids i j n; answers = answered w i j Award }
 
--- object j goes from person k to person i
+-- object j goes from its holder k to person i
 abbrev pub pass_on : Places → ℕ → ℕ → ℕ → ℕ → Places
 pass_on w i j n k =
     record {
@@ -94,18 +94,18 @@ pass_on w i j n k =
           j (answered w k j Outbid i j ++ Award ∷ []);
     }
 
--- the state after an answer
+-- the state of a person after an answer
 abbrev pub heard : Answer → ℕ → PersonState
 heard Award j = Holds j
 heard Refused j = Free
 heard Outbid j = Free
 
--- the state allows the answer
+-- the state of a person allows the answer
 abbrev pub Allows : PersonState → Answer → ℕ → Type 0
 Allows s Award j = s ≡ Waits j
 Allows s Refused j = s ≡ Waits j
 Allows s Outbid j = s ≡ Holds j
 
--- person i hears the first answer about object j, and xs are left
+-- person i takes the first answer about object j, and xs are left
 abbrev pub hear : Places → ℕ → ℕ → Answer → List Answer → Places
 hear w i j a xs = record { state = put w.state i (heard a j); holder = w.holder; bids = w.bids; answers = put2 w.answers i j xs }

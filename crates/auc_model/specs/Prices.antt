@@ -1,19 +1,19 @@
--- Prices about one object, from the copy of a shard of the persons over the letters to the object.
+-- The prices of one object, from the copy of a shard of the persons over the letters to the true price.
 use Rattle.std.specs.Prelude.{ℕ, ℤ, ◌≤ℤ◌, List, [], ◌∷◌, ◌++◌}
 use Rattle.auc_model.specs.Put.{put, put2}
 
--- from low, each price at least the one before, up to high
+-- a rising sequence: from low, each price at least the one before, up to high
 abbrev pub Rising : ℤ → List ℤ → ℤ → Type 0
 Rising low [] high = low ≤ℤ high
 Rising low (p ∷ ps) high = (low ≤ℤ p) × Rising p ps high
 
--- true prices by object; copies, and the prices on their way, by person shard and object
+-- true prices by object; copies (stale prices), and the prices under way, by person shard and object
 pub record Prices : Type 0 where
   pub price : ℕ → ℤ
   pub copy : ℕ → ℕ → ℤ
   pub news : ℕ → ℕ → List ℤ
 
--- the price of an object never falls on its way from the copy over the letters to the object
+-- on the way from the copy over the letters to the object, the price never falls
 abbrev pub NeverFalls : Prices → Type 0
 NeverFalls w = (s j : ℕ) → Rising (w.copy s j) (w.news s j) (w.price j)
 
@@ -25,10 +25,10 @@ raise w j p = record { price = put w.price j p; copy = w.copy; news = w.news }
 abbrev pub tell : Prices → ℕ → ℕ → Prices
 tell w s j = record { price = w.price; copy = w.copy; news = put2 w.news s j (w.news s j ++ w.price j ∷ []) }
 
--- s hears p, and ps are left
+-- s takes the price p as its copy, and ps are left
 abbrev pub learn : Prices → ℕ → ℕ → ℤ → List ℤ → Prices
 learn w s j p ps = record { price = w.price; copy = put2 w.copy s j p; news = put2 w.news s j ps }
 
--- what is left to come is some of what was to come
+-- some prices under way are lost, and ps are left
 abbrev pub lose : Prices → ℕ → ℕ → List ℤ → Prices
 lose w s j ps = record { price = w.price; copy = w.copy; news = put2 w.news s j ps }

@@ -1,4 +1,4 @@
--- Tables by number, and tables by two numbers, in which one entry is set.
+-- Functions of one number, and of two, in which one value is replaced.
 use Rattle.std.specs.Prelude.{ℕ, ◌==◌, ◌&&◌, if◌then◌else◌}
 
 -- f, but v at k

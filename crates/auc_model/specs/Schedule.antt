@@ -1,4 +1,4 @@
--- A turn of the world, and a schedule of turns.
+-- The turns of the world (its transitions), and schedules of turns.
 use Rattle.std.specs.Prelude.{ℕ, ◌≡◌, ◌≢◌, ◌⊎◌, List, [], ◌∷◌}
 use Rattle.auc_mail.specs.Step.{Step, AreOfTwoSenders}
 use Rattle.auc_mail.specs.declared.call.Call.{Call}
@@ -16,7 +16,7 @@ use Rattle.auc_model.specs.Hearing.{PersonTakeTurn}
 use Rattle.auc_model.specs.Selling.{ObjectTakeTurn, TellTurn}
 use Rattle.auc_model.specs.Hub.{HubTakeTurn, HubCloseTurn}
 
--- From w, the turn may be answered by r and lead to v. Only the sender of a letter that is taken is left free.
+-- From w, the turn may return r and lead to v. The only free choice is the sender of a letter that is taken.
 abbrev pub Turned : Phase → World → Turn → TurnReply → World → Type 0
 Turned g w (Turn.Bid s) r v = BidTurn g w s r v
 Turned g w (Turn.PersonPost s) r v = PostTurn g w (Shard.PersonShard s) r v
@@ -27,19 +27,18 @@ Turned g w (Turn.Tell q j s) r v = TellTurn g w q j s r v
 Turned g w Turn.HubTake r v = HubTakeTurn g w r v
 Turned g w (Turn.HubClose name at) r v = HubCloseTurn w name at r v
 
--- the turns, one after another and however answered, lead from w to v
+-- the turns, one after another and with any returns, lead from w to v
 abbrev pub Schedule : Phase → World → List Turn → World → Type 0
 Schedule g w [] v = v ≡ w
 Schedule g w (t ∷ ts) v = (m : World) × (r : TurnReply) × Turned g w t r m × Schedule g m ts v
 
--- of the three mails this one may have made a step, and the others are as they were
+-- only the mail of this name may have made a step
 pub record StepsIn (w v : World) (name : MailName) : Type 0 where
   pub this : (mail_named v name ≡ mail_named w name)
       ⊎ ((c : Call Letter) × (r : Reply Letter) × Step (mail_named w name) c r (mail_named v name))
   pub others : (other : MailName) → other ≢ name → mail_named v other ≡ mail_named w other
 
--- Two worlds after w differ by the sender of a letter: by one and the same call of a mail they come of letters of two
--- senders.
+-- Two worlds after w differ only by the sender of a letter: the same call of a mail took letters of two senders.
 pub record TakesOfTwoSenders (w u v : World) : Type 0 where
   pub mail : MailName
   pub box : ℕ
@@ -49,7 +48,7 @@ pub record TakesOfTwoSenders (w u v : World) : Type 0 where
   pub takes_other : Step (mail_named w mail) (Call.Take box) other (mail_named v mail)
   pub senders : AreOfTwoSenders one other
 
--- v is reached: some schedule leads there from a world that the phase begins with
+-- v is reachable: some schedule leads to it from a world with which the phase begins
 pub record Reached (g : Phase) (v : World) : Type 0 where
   pub lawful : Lawful g
   pub start : World

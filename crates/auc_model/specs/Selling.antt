@@ -1,4 +1,4 @@
--- ObjectTake and Tell: a shard of the objects deals with a bid, or tells a price.
+-- ObjectTake and Tell: a shard of the objects answers a bid, or sends a price.
 use Rattle.std.specs.Prelude.{ℕ, ◌%◌, ◌<◌, ◌≤◌, ◌≡◌, ◌≢◌, ◌⊎◌, [], ◌∷◌}
 use Rattle.auc_mail.specs.Mail.{Mail}
 use Rattle.auc_letters.specs.declared.letter.Letter.{Letter}
@@ -22,11 +22,11 @@ FitsBid g q (Letter.Price j p) = ⊥
 FitsBid g q (Letter.First j) = ⊥
 FitsBid g q (Letter.Stop y) = ⊥
 
--- what is known of an object: its price, and who holds it
+-- the state of an object: the price, and the holder
 abbrev pub sale_of : World → ℕ → Sale
 sale_of w j = record { price = w.price j; holder = w.holder j }
 
--- The mail goes on to m, the object is as the award makes it, and the letters that answer the bid go into the empty
+-- The world after an answered bid: the mail is m, the object is as the award leaves it, and the answers are in the
 -- outbox of the shard q.
 abbrev pub after_answer : Phase → World → ℕ → Mail Letter → Bid → World
 after_answer g w q m bid = record w {
@@ -36,7 +36,7 @@ after_answer g w q m bid = record w {
   object_out = put w.object_out q (answers g.shards g.eps (sale_of w bid.object) bid);
 }
 
--- ObjectTake(q)
+-- ObjectTake(q): no letter, a bid that is answered, or a letter that doesn't fit
 pub data ObjectTakeTurn (g : Phase) (w : World) (q : ℕ) (r : TurnReply) (v : World) : Type 0 where
   no_letter : ((g.shards ≤ q) ⊎ (w.object_out q ≢ []) ⊎ TakesNone w.objects_mail q) → r ≡ TurnReply.Nothing → v ≡ w
       → ObjectTakeTurn g w q r v
@@ -47,7 +47,7 @@ pub data ObjectTakeTurn (g : Phase) (w : World) (q : ℕ) (r : TurnReply) (v : W
       → (FitsBid g q l → ⊥)
       → r ≡ TurnReply.Moved → v ≡ ended (record w { objects_mail = m }) Why.Stray → ObjectTakeTurn g w q r v
 
--- Tell(q, j, s): the shard q of the objects tells the price of j to the shard s of the persons
+-- Tell(q, j, s): the shard q of the objects sends the price of j to the shard s of the persons
 pub data TellTurn (g : Phase) (w : World) (q j s : ℕ) (r : TurnReply) (v : World) : Type 0 where
   silent : ((g.shards ≤ q) ⊎ (g.shards ≤ s) ⊎ (g.objects ≤ j) ⊎ (j % g.shards ≢ q) ⊎ (w.object_out q ≢ []))
       → r ≡ TurnReply.Nothing → v ≡ w → TellTurn g w q j s r v

@@ -1,4 +1,4 @@
--- Who bids, and who holds, would not be better off by another arc by more than eps.
+-- Epsilon-complementary slackness of bids under way, at their amounts, and of holders, at the true prices.
 use Rattle.std.specs.Prelude.{ℕ, ◌≡◌, ℤ, Some, Contains}
 use Rattle.auc_graph.specs.declared.rows.RowArc.{RowArc}
 use Rattle.auc_letters.specs.declared.letter.Letter.{Letter}
@@ -9,7 +9,8 @@ use Rattle.auc_model.specs.World.{Phase, World}
 use Rattle.auc_model.specs.Slack.{SlackRight}
 use Rattle.auc_model.specs.Channels.{Channels, Each}
 
--- person i's arc at that place leads to j, and would be slack-right if j cost so much
+-- person i's arc at that place leads to j, and satisfies epsilon-complementary slackness if this amount is the price of
+-- j
 pub record SlackAt (g : Phase) (p : ℕ → ℤ) (i place j : ℕ) (amount : ℤ) : Type 0 where
   pub arc : RowArc
   pub listed : Contains (g.row i) arc

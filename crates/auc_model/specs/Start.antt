@@ -1,4 +1,4 @@
--- What a phase begins with.
+-- The worlds with which a phase begins.
 use Rattle.std.specs.Prelude.{ℕ, suc, ◌+◌, ◌*◌, ◌%◌, ◌<◌, ◌≡◌, ◌==◌, ◌&&◌, nat_lt, pos, ◌≤ℤ◌, false, List, [], ◌∷◌, None, if◌then◌else◌, All}
 use Rattle.auc_mail.specs.Mail.{Mail, empty_mail}
 use Rattle.auc_letters.specs.declared.letter.Letter.{Letter}
@@ -7,14 +7,14 @@ use Rattle.auc_letters.specs.Persons.{is_free}
 use Rattle.auc_graph.specs.Price.{IsPrice}
 use Rattle.auc_model.specs.World.{Phase, World, senders}
 
--- what the numbers of a phase meet
+-- the limits of the numbers of a phase
 pub record Lawful (g : Phase) : Type 0 where
   pub some_shards : 0 < g.shards
   pub eps_above : pos 1 ≤ℤ g.eps
   pub spread_above : pos 0 ≤ℤ g.spread
   pub arcs_in_range : (i : ℕ) → All (λ a. a.object < g.objects) (g.row i)
 
--- how often i stands in the list
+-- the number of times that i occurs in the list
 abbrev pub occurs : ℕ → List ℕ → ℕ
 occurs i [] = 0
 occurs i (k ∷ ks) = if k == i then suc (occurs i ks) else occurs i ks
@@ -23,12 +23,12 @@ occurs i (k ∷ ks) = if k == i then suc (occurs i ks) else occurs i ks
 abbrev pub free_in : Phase → PersonState → ℕ → ℕ → ℕ
 free_in g t s i = if ((i % g.shards) == s) && (nat_lt i g.persons && is_free t) then 1 else 0
 
--- a mail with so many boxes in which nothing was posted, and every box of which is open
+-- a mail with this number of boxes, all open, in which nothing was posted
 abbrev pub IsNew : Phase → Mail Letter → ℕ → Type 0
 IsNew g m boxes = m ≡ empty_mail boxes (senders g) m.nodes m.most
 
--- The world that a phase begins with, at any prices in range: no copy is above its price, nobody holds anything, every
--- person is free and stands once in the list of his shard, and nothing was sent, stopped, counted or ended.
+-- The world with which a phase begins, at any prices in range. No copy is above its price, no object has a holder, and
+-- every person is free and once in its shard's list. Nothing was sent, stopped, counted or ended.
 pub record Starts (g : Phase) (w : World) : Type 0 where
   pub price_range : (j : ℕ) → IsPrice (w.price j)
   pub copies_above : (s j : ℕ) → pos 0 ≤ℤ w.copy s j

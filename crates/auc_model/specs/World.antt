@@ -10,8 +10,8 @@ use Rattle.auc_letters.specs.declared.state.PersonState.{PersonState}
 use Rattle.auc_letters.specs.declared.state.Held.{Held}
 use Rattle.auc_model.specs.declared.turn.End.{End}
 
--- What stays for a whole phase: the numbers of persons and of objects, how many shards there are of each, the spread of
--- the costs, eps, and the row of each person.
+-- The parameters of a phase: the numbers of persons, of objects and of shards of each kind, the spread of the costs,
+-- eps, and the row of each person.
 pub record Phase : Type 0 where
   pub persons : ℕ
   pub objects : ℕ
@@ -25,7 +25,7 @@ abbrev pub phase_of : Table → ℕ → ℤ → Phase
 phase_of t shards eps = record
     { persons = length t.rows; objects = t.objects; shards = shards; spread = t.spread; eps = eps; row = row_of t }
 
--- by what costs are scaled: one more than the persons
+-- the factor that scales costs: one more than the number of persons
 abbrev pub scale : Phase → ℤ
 scale g = pos (g.persons + 1)
 
@@ -33,10 +33,9 @@ scale g = pos (g.persons + 1)
 abbrev pub senders : Phase → ℕ
 senders g = 2 * g.shards + 1
 
--- By object the true price and the holder; by person how he stands; by shard of the persons and object the copy of the
--- price; by shard of the persons its free persons, who has been free longest first, how many bids are left, and whether
--- it has made a Stop; the outboxes of the shards, the next letter first; the three mails; how many First letters the
--- hub has counted; and the end, once it is set.
+-- The state of one phase. By object: the true price and the holder. By person: its state. By person shard: the copies
+-- of prices, the free persons (longest free first), the bids left, and whether it has made a Stop. Also the outboxes of
+-- the shards, next letter first; the three mails; the First letters counted; and the end, once it is set.
 pub record World : Type 0 where
   pub price : ℕ → ℤ
   pub holder : ℕ → Option Held

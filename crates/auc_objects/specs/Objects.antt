@@ -6,8 +6,8 @@ use Rattle.auc_letters.specs.declared.state.Held.{Held}
 use Rattle.auc_letters.specs.Award.{Sale, award, bid_letter}
 use Rattle.auc_graph.specs.Price.{IsPrice}
 
--- The shard's number, of how many; how many shards of persons and how many persons there are; and by object the price
--- and the holder.
+-- The shard's number and the number of such shards, the number of person shards, and the number of persons. By object
+-- the price and the holder.
 pub record Objects : Type 0 where
   pub shard : ℕ
   pub of : ℕ
@@ -16,7 +16,7 @@ pub record Objects : Type 0 where
   pub prices : List ℤ
   pub holders : List (Option Held)
 
--- what holds of each shard
+-- the invariant of each shard
 pub record AreObjects (s : Objects) : Type 0 where
   pub known : s.shard < s.of
   pub person_shards : 0 < s.person_shards
@@ -35,25 +35,25 @@ price_of s object = slice_index_or s.prices object (pos 0)
 abbrev pub holder_of : Objects → ℕ → Option Held
 holder_of s object = slice_index_or s.holders object None
 
--- the price and the holder
+-- the price and the holder of an object
 abbrev pub sale_of : Objects → ℕ → Sale
 sale_of s object = record { price = price_of s object; holder = holder_of s object }
 
--- the shard where an object has this price and this holder: nothing else is changed
+-- the shard with this price and this holder of an object; nothing else changes
 abbrev pub with_sale : Objects → ℕ → Sale → Objects
 with_sale s object sale = record s { prices = slice_set s.prices object sale.price; holders = slice_set s.holders object sale.holder }
 
--- the shard when a bid was dealt with, by the award rule
+-- the shard after a bid, by the award rule
 abbrev pub after_bid : Objects → ℤ → Bid → Objects
 after_bid s eps bid = with_sale s bid.object (award eps (sale_of s bid.object) bid)
 
--- the letter is this bid, and it fits the shard: the object is the shard's, and the amount is in range
+-- the letter is this bid, and the shard may accept it: the object is the shard's, and the amount is in range
 pub record IsBidIn (s : Objects) (letter : Letter) (bid : Bid) : Type 0 where
   pub letter_is : letter ≡ bid_letter bid
   pub owns : Owns s bid.object
   pub amount : IsPrice bid.amount
 
--- the shard has as many objects as before, and the same number among as many shards
+-- the numbers of the shard stay: its objects, its own number and that of the shards
 pub record SameShape (s n : Objects) : Type 0 where
   pub shard : n.shard ≡ s.shard
   pub of : n.of ≡ s.of

@@ -1,14 +1,14 @@
--- An object as its shard keeps it: what its price and its holder are.
+-- The packed form of an object in its shard: the price and the holder that it stands for.
 use Rattle.std.specs.Prelude.{ℕ, ℤ, pos, negsuc, Option, Some, None}
 use Rattle.auc_letters.specs.declared.state.Held.{Held}
 use Rattle.auc_objects.specs.declared.packed_sale.PackedSale.{PackedSale}
 
--- a price is kept as it is, or as -1 less it
+-- a price is kept as it is, or as -1 minus the price
 abbrev pub price_coded : ℤ → ℤ
 price_coded (pos p) = pos p
 price_coded (negsuc p) = pos p
 
--- there is a holder where the price is kept as it is
+-- the object has a holder exactly where the price is kept as it is
 abbrev pub holder_coded : ℤ → ℕ → ℕ → Option Held
 holder_coded (pos p) person arc = Some (record { person = person; arc = arc })
 holder_coded (negsuc p) person arc = None

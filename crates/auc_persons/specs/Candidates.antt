@@ -1,4 +1,4 @@
--- Lists of candidates: what they say of a row, and that it stays true while copies rise.
+-- Candidate lists: what they say of a row, which stays true while copies rise.
 use Rattle.std.specs.Prelude.{◌≡◌, ◌<◌, ◌+◌, ◌⊎◌, ℕ, ℤ, pos, ◌≤ℤ◌, ◌<ℤ◌, List, [], length, All, AllPairs, Contains}
 use Rattle.auc_graph.specs.declared.rows.RowArc.{RowArc}
 use Rattle.auc_graph.specs.Bid.{value}
@@ -6,7 +6,7 @@ use Rattle.auc_graph.specs.Table.{Table, row_of}
 use Rattle.auc_persons.specs.declared.bidder.scan.Scan.{Scan}
 use Rattle.auc_persons.specs.Scan.{copy_in, endless}
 
--- the list of a person: some arcs of his row, and a bound
+-- the candidate list of a person: some arcs of the row, and a bound
 pub record Listed : Type 0 where
   pub person : ℕ
   pub bound : ℤ
@@ -15,29 +15,30 @@ pub record Listed : Type 0 where
 abbrev pub no_list : ℕ → Listed
 no_list person = record { person = person; bound = pos 0; arcs = [] }
 
--- The arcs of the list are arcs of the row, in the row's order; and where there are some, each other arc of the row has
--- a value of at least the bound.
+-- The arcs of the list are arcs of the row, in the row's order. If there are any, the value of each other arc of the
+-- row is the bound at least.
 pub record Keeps (val : RowArc → ℤ) (row arcs : List RowArc) (bound : ℤ) : Type 0 where
   pub members : All (Contains row) arcs
   pub rising : AllPairs (λ a b. a.arc < b.arc) arcs
   pub rest : (arcs ≡ []) ⊎ All (λ b. Contains arcs b ⊎ (bound ≤ℤ val b)) row
 
--- the list of a person is right at these copies
+-- the list of a person is correct at these copies
 abbrev pub KeepsListed : Table → List ℤ → Listed → Type 0
 KeepsListed t copies l = Keeps (value (pos (length t.rows + 1)) (copy_in copies)) (row_of t l.person) l.arcs l.bound
 
--- all lists are right at these copies
+-- all lists are correct at these copies
 abbrev pub Kept : Table → List ℤ → List Listed → Type 0
 Kept t copies lists = All (KeepsListed t copies) lists
 
--- what a pass over a list has found is below all that is left out
+-- what a pass over a list has found decides: the best is below the bound of the arcs left out, and the second is at
+-- most the bound
 pub record Decides (bound : ℤ) (f : Scan) : Type 0 where
   pub best : f.value <ℤ bound
   pub next : f.second ≤ℤ bound
   pub some : f.second <ℤ endless
 
--- a list, as far as the arcs of a row were seen: those of the list are among them, and each other one is at the bound
--- or above
+-- a list of the arcs of a row seen so far: its arcs are among them, and the value of each other one is the bound at
+-- least
 pub record Gathered (val : RowArc → ℤ) (seen arcs : List RowArc) (bound : ℤ) : Type 0 where
   pub members : All (Contains seen) arcs
   pub rising : AllPairs (λ a b. a.arc < b.arc) arcs

@@ -1,4 +1,4 @@
--- A shard of the persons, as callers see it, and what each call leaves of it.
+-- A shard of the persons, as callers see it, and the result of each call.
 use Rattle.std.specs.Prelude.{◌≡◌, ◌≢◌, ◌<◌, ◌≤◌, ◌+◌, ◌-◌, ◌%◌, ◌^◌, ℕ, ℤ, pos, ◌≤ℤ◌, ◌<ℤ◌, List, [], ◌∷◌, ◌++◌, Result, Ok, Err, length, drop, All, slice_index_or, slice_set, count_by}
 use Rattle.auc_graph.specs.declared.rows.RowArc.{RowArc}
 use Rattle.auc_graph.specs.Table.{Table, row_of}
@@ -14,8 +14,8 @@ use Rattle.auc_letters.specs.Award.{bid_of, bid_out}
 use Rattle.auc_graph.specs.Bid.{IsBid}
 use Rattle.auc_persons.specs.Scan.{copy_in}
 
--- The shard's number, of how many; how many shards of objects there are, and how many bids are left; by object the copy
--- of its price, by person how he stands; and the free persons of the shard, who has been free longest first.
+-- The shard's number and the number of such shards, the number of object shards, and the bids left. By object the copy
+-- of its price, and by person its state. The free persons of the shard, longest free first.
 pub record Persons : Type 0 where
   pub shard : ℕ
   pub of : ℕ
@@ -25,7 +25,7 @@ pub record Persons : Type 0 where
   pub states : List PersonState
   pub idle : List ℕ
 
--- what holds of each shard
+-- the invariant of each shard
 pub record ArePersons (s : Persons) : Type 0 where
   pub known : s.shard < s.of
   pub shards : 0 < s.object_shards
@@ -45,24 +45,24 @@ copy_of s object = copy_in s.copies object
 abbrev pub state_of : Persons → ℕ → PersonState
 state_of s person = slice_index_or s.states person Free
 
--- the shard was made for as many persons and objects
+-- the shard has as many persons and objects as the table
 pub record IsMadeFor (t : Table) (s : Persons) : Type 0 where
   pub persons : length t.rows ≡ length s.states
   pub objects : t.objects ≡ length s.copies
 
--- the shard where the copy of an object's price is this one
+-- the shard with this copy of an object's price
 abbrev pub with_copy : Persons → ℕ → ℤ → Persons
 with_copy s object price = record s { copies = slice_set s.copies object price }
 
--- who has been free longest
+-- the person that has been free longest
 abbrev pub first_idle : Persons → ℕ
 first_idle s = slice_index_or s.idle 0 0
 
--- what a person bids, at the copies of the shard
+-- the bid of a person at the copies of the shard
 abbrev pub Bids : Table → ℤ → Persons → ℕ → RowArc → ℤ → Type 0
 Bids t eps s i arc amount = IsBid (pos (length t.rows + 1)) t.spread eps (copy_in s.copies) (row_of t i) arc amount
 
--- why a person can't bid, in this order: no bid is left, he has no arc, he would bid above the greatest price
+-- why a person can't bid, in this order: no bid is left, the row is empty, the bid would be above the greatest price
 abbrev pub Stops : Table → ℤ → Persons → ℕ → Why → Type 0
 Stops t eps s i Why.Bids = s.bids ≡ 0
 Stops t eps s i Why.Stuck = (s.bids ≢ 0) × (row_of t i ≡ [])
@@ -73,12 +73,12 @@ Stops t eps s i Why.Mail = ⊥
 Stops t eps s i Why.Fell = ⊥
 Stops t eps s i Why.Stray = ⊥
 
--- the shard when the first of the free persons has bid: he waits, and a bid is used up
+-- the shard after the bid of the first free person: that person waits, and a bid is used up
 abbrev pub after_bid : Persons → ℕ → ℕ → Persons
 after_bid s i j = record s { idle = drop 1 s.idle; bids = s.bids - 1; states = slice_set s.states i (Waits j) }
 
--- The next bid: nobody is free; or the person who has been free longest can't bid; or he bids. Only the last changes
--- the shard.
+-- The next bid: no person is free, or the person that has been free longest can't bid, or it bids. Only the last
+-- changes the shard.
 abbrev pub NextBid : Table → ℤ → Persons → Bidding → Persons → Type 0
 NextBid t eps s Bidding.Idle n = (s.idle ≡ []) × (n ≡ s)
 NextBid t eps s (Bidding.Stop why) n = (s.idle ≢ []) × Stops t eps s (first_idle s) why × (n ≡ s)
@@ -89,7 +89,7 @@ NextBid t eps s (Bidding.Out out) n =
     bid_out s.object_shards (bid_of (first_idle s) arc.arc arc.object amount)) × (n ≡ after_bid s (first_idle s)
     arc.object))
 
--- an answer to a person about an object fits where he stands as it wants
+-- an answer to a person about an object fits: numbers are in range, and the person is in the state wanted
 abbrev pub FitsAnswer : Persons → ℕ → ℕ → ℤ → PersonState → Type 0
 FitsAnswer s i j p wanted = (i < length s.states) × (i % s.of ≡ s.shard) × (j < length s.copies) × IsPrice p × (state_of s i ≡ wanted)
 
@@ -106,13 +106,13 @@ free_after s i j p = record s { copies = slice_set s.copies j p; states = slice_
 abbrev pub Falls : Persons → ℕ → ℤ → Type 0
 Falls s j p = p <ℤ copy_of s j
 
--- the copy of an object's price was set to a price that is no less, or else it stays
+-- the copy is set to a price that is no less, or it stays and the fall is reported
 abbrev pub Raised : Persons → ℕ → ℤ → Result (Unit {0}) PersonFault → Persons → Type 0
 Raised s j p (Ok _) n = (copy_of s j ≤ℤ p) × (n ≡ with_copy s j p)
 Raised s j p (Err PersonFault.Stray) n = ⊥
 Raised s j p (Err PersonFault.Fell) n = Falls s j p × (n ≡ s)
 
--- an outcome: it fits and the price is no fall; or it doesn't fit; or it falls
+-- the outcome of a letter: it fits and the price doesn't fall; or it doesn't fit; or it fits and the price falls
 abbrev pub Outcome : Type 0 → Persons → ℕ → ℤ → Persons → Result (Unit {0}) PersonFault → Persons → Type 0
 Outcome fits s j p after (Ok _) n = fits × (copy_of s j ≤ℤ p) × (n ≡ after)
 Outcome fits s j p after (Err PersonFault.Stray) n = (fits → ⊥) × (n ≡ s)
@@ -133,7 +133,7 @@ OnLetter s (Letter.Bid i a j p) r n = (r ≡ Err PersonFault.Stray) × (n ≡ s)
 OnLetter s (Letter.First j) r n = (r ≡ Err PersonFault.Stray) × (n ≡ s)
 OnLetter s (Letter.Stop y) r n = (r ≡ Err PersonFault.Stray) × (n ≡ s)
 
--- the shard has as many persons and objects as before, and the same number among as many shards
+-- the numbers of the shard stay: its persons, its objects, its own number and that of the shards
 pub record SameShape (s n : Persons) : Type 0 where
   pub shard : n.shard ≡ s.shard
   pub of : n.of ≡ s.of

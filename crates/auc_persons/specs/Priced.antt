@@ -1,4 +1,4 @@
--- The values of the arcs of a row, at the prices that it is looked over at.
+-- The values of the arcs of a row at the prices of a pass over it.
 use Rattle.std.specs.Prelude.{ℕ, ℤ, ◌+◌, pos, List, length, slice_index_or}
 use Rattle.auc_graph.specs.declared.rows.RowArc.{RowArc}
 use Rattle.auc_graph.specs.Bid.{value}
@@ -15,22 +15,22 @@ value_in row = value row.scale (copy_in row.copies.now)
 abbrev pub no_arc : RowArc
 no_arc = record { cost = pos 0; object = 0; arc = 0 }
 
--- the arc that stands at a place
+-- the arc at a place
 abbrev pub arc_at : List RowArc → ℕ → RowArc
 arc_at arcs place = slice_index_or arcs place no_arc
 
--- the row of the person himself
+-- the row of the person
 abbrev pub arcs_of : PersonRow → List RowArc
 arcs_of own = row_of own.rows.now own.person
 
--- the value of an arc to him
+-- the value of an arc to the person, at the person's copies
 abbrev pub value_to : PersonRow → RowArc → ℤ
 value_to own = value (pos (length own.rows.now.rows + 1)) (copy_in own.copies.now)
 
--- a pass over his row has found its best arc
+-- the result of a pass over the person's row: its best arc
 abbrev pub IsScanOf : PersonRow → Scan → Type 0
 IsScanOf own = IsScan (value_to own) (arcs_of own)
 
--- all lists are right at his copies
+-- all lists are correct at the person's copies
 abbrev pub KeptAt : PersonRow → List Listed → Type 0
 KeptAt own = Kept own.rows.now own.copies.now

@@ -1,4 +1,4 @@
--- One pass over a row.
+-- One pass over a row: the best arc, and the least value to another object.
 use Rattle.std.specs.Prelude.{◌≡◌, ◌≢◌, ℕ, ◌+◌, ◌-◌, ◌^◌, ◌<◌, ◌≤◌, ◌⊎◌, ℤ, pos, neg_ℤ, ◌≤ℤ◌, ◌<ℤ◌, List, Contains, All, slice_index_or}
 use Rattle.auc_graph.specs.declared.rows.RowArc.{RowArc}
 use Rattle.auc_persons.specs.declared.bidder.scan.Scan.{Scan}
@@ -7,22 +7,22 @@ use Rattle.auc_persons.specs.declared.bidder.scan.Scan.{Scan}
 abbrev pub copy_in : List ℤ → ℕ → ℤ
 copy_in copies object = slice_index_or copies object (pos 0)
 
--- what stands for the value of no arc
+-- the value that stands for no arc
 abbrev pub endless : ℤ
 endless = pos (2 ^ 63 - 1)
 
--- the values that costs and prices within the limits can give
+-- the range of values that costs and prices within the limits can give
 pub record IsValue (v : ℤ) : Type 0 where
   pub low : neg_ℤ (pos (2 ^ 44)) ≤ℤ v
   pub high : v ≤ℤ pos (2 ^ 61 + 2 ^ 44)
 
--- the least value of arcs to other objects, where there are some
+-- a value of an arc to another object, or `endless` where there is none
 abbrev pub Reached : (RowArc → ℤ) → List RowArc → RowArc → ℤ → Type 0
 Reached val row a second =
     (All (λ b. b.object ≡ a.object) row × (second ≡ endless))
     ⊎ ((b : RowArc) × Contains row b × (b.object ≢ a.object) × (val b ≡ second) × IsValue second)
 
--- a pass over a row has found its best arc
+-- the result of a pass over a row: its best arc, with ties by object and place, and the least value to another object
 pub record IsScan (val : RowArc → ℤ) (row : List RowArc) (f : Scan) : Type 0 where
   pub listed : Contains row f.best
   pub is_value : f.value ≡ val f.best
@@ -33,7 +33,7 @@ pub record IsScan (val : RowArc → ℤ) (row : List RowArc) (f : Scan) : Type 0
   pub others : All (λ b. b.object ≢ f.best.object → f.second ≤ℤ val b) row
   pub reached : Reached val row f.best f.second
 
--- an arc is better: of a lower value, or of the same and to a lower object
+-- the arc is better than the best so far: of a lower value, or of the same to a lower object
 abbrev pub Beats : RowArc → ℤ → Scan → Type 0
 Beats a v f = (v <ℤ f.value) ⊎ ((v ≡ f.value) × (a.object < f.best.object))
 

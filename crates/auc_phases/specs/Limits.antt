@@ -1,8 +1,8 @@
--- How much a phase may use.
+-- The limits of a phase.
 use Rattle.std.specs.Prelude.{ℕ, ◌≤◌, ◌==◌, if◌then◌else◌}
 use Rattle.auc_phases.specs.declared.limits.Limits.{Limits}
 
--- the number of letters that may wait, where 0 stands for the usual one
+-- the number of letters that may wait, where 0 means the usual number
 abbrev pub nodes_or : ℕ → ℕ → ℕ
 nodes_or nodes usual = if nodes == 0 then usual else nodes
 

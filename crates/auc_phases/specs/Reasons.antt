@@ -1,4 +1,4 @@
--- Why a phase ends where a letter has a fault.
+-- The reason for which a phase ends where a letter has a fault.
 use Rattle.auc_letters.specs.declared.letter.Why.{Why}
 use Rattle.auc_persons.specs.declared.bidding.PersonFault.{PersonFault}
 

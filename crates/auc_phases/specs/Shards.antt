@@ -1,4 +1,4 @@
--- The shards of a phase: what each of them is, and how it begins.
+-- The shards of a phase, and the state in which each begins.
 use Rattle.std.specs.Prelude.{ℕ, ◌≡◌, ℤ, List, [], None, length, All, replicate}
 use Rattle.auc_graph.specs.Table.{Table}
 use Rattle.auc_letters.specs.declared.state.PersonState.{PersonState}
@@ -6,7 +6,7 @@ use Rattle.auc_letters.specs.Persons.{persons_of}
 use Rattle.auc_persons.specs.Persons.{IsMadeFor, Owns, Persons}
 use Rattle.auc_objects.specs.Objects.{Objects}
 
--- what is read where there is no such shard
+-- the shards that are read where there is none of the number
 abbrev pub no_persons : Persons
 no_persons = record { shard = 0; of = 0; object_shards = 0; bids = 0; copies = []; states = []; idle = [] }
 
@@ -26,7 +26,7 @@ new_persons shards persons bids prices s = record {
   idle = persons_of s shards persons;
 }
 
--- a new shard of the objects: nobody holds any
+-- a new shard of the objects: no object has a holder
 abbrev pub new_objects : ℕ → ℕ → List ℤ → ℕ → Objects
 new_objects shards persons prices q = record
     { shard = q; of = shards; person_shards = shards; persons = persons; prices = prices; holders = replicate (length prices) None }

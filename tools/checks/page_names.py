@@ -1,5 +1,5 @@
 """Names in back quotes that exist nowhere: each name of code that a page shows has to stand in the sources, the
-tools or the toolchain."""
+tools or the toolchain. The file of a package has to be one of the version that VERSION says."""
 import functools
 import pathlib
 import re
@@ -14,6 +14,8 @@ SKIPPED = {"out", "dist", ".git", "__pycache__"}
 # A name of code: words joined by underscores or colons, or a word with a capital inside.
 NAME = re.compile(r"(?<!\w)(?:[A-Za-z]\w*(?:::\w+)+|[a-z]\w*_\w+|[A-Z][a-z]\w*[A-Z]\w*)")
 COMMENT = re.compile(r"(?://|--).*")
+# The file of a package, which no source names, since it is made of VERSION.
+PACKAGE = re.compile(r"[a-z][a-z0-9-]*[_-]([0-9.]+)[_-](?:amd64\.deb|linux-x86_64\.tar\.gz)")
 
 
 def is_source(path):
@@ -84,12 +86,15 @@ def is_name(name):
 
 def names_in(line):
     for quoted in re.findall(r"`([^`]+)`", line):
-        yield from NAME.findall(quoted)
+        yield from NAME.findall(PACKAGE.sub("", quoted))
 
 
 def faults_of_names(page, lines):
     """The names that a page shows and that exist nowhere. Lines are the numbered ones of its prose."""
-    if str(page.relative_to(ROOT)).startswith(PAST):
+    name_of_page, version = str(page.relative_to(ROOT)), (ROOT / "VERSION").read_text(encoding="ascii").strip()
+    if name_of_page.startswith(PAST):
         return []
     shown = [(number, name) for number, line in lines if not line.startswith("    ") for name in names_in(line)]
-    return [f"{page.relative_to(ROOT)}, line {number}: `{name}` exists nowhere" for number, name in shown if not is_name(name)]
+    packages = [(number, found) for number, line in lines for found in PACKAGE.finditer(line)]
+    faults = [f"{name_of_page}, line {number}: `{name}` exists nowhere" for number, name in shown if not is_name(name)]
+    return faults + [f"{name_of_page}, line {number}: {found[0]} isn't of version {version}" for number, found in packages if found[1] != version]

@@ -35,7 +35,7 @@ length_numbered line k (x ∷ xs) = ap suc (length_numbered line (k + 1) xs)
 pub joined_append : (a b : List (List ℕ)) → joined (a ++ b) ≡ joined a ++ joined b
 joined_append a b = flat_map-append (λ (l : List ℕ). l) a b
 
--- how many objects a claim of so many picks and prices numbers
+-- the number of objects that a claim with these numbers of picks and prices can number
 abbrev pub most_for : ℕ → ℕ → ℕ
 most_for n m = most_in (version_of_sizes n m)
 

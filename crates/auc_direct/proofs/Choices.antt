@@ -1,5 +1,5 @@
--- The arcs by which persons hold are arcs of the problem, and slack-right; where each person has one they are an
--- assignment.
+-- The arcs by which persons hold are arcs of the problem, and satisfy epsilon-complementary slackness. If each person
+-- has one, they are an assignment.
 use Rattle.std.proofs.Common.{ℕ, ℤ, pos, zero, suc, ◌+◌, ◌<◌, ◌≤◌, ◌≡◌, ◌≢◌, refl, arith, false, List, [], ◌∷◌, length, get_or, map, Option, Some, None, Contains, inl, inr, ap, sym, subst, ◌∙◌}
 use Rattle.std.specs.Prelude.{nat_eq, All, ◌⊎◌, ◌+ℤ◌, ◌*ℤ◌, ◌≤ℤ◌}
 use Rattle.std.specs.List.{slice_get, range_with_len, IsDistinct, AllByRecursion}

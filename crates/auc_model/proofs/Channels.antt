@@ -52,7 +52,7 @@ waits-set w To.Hub x l k h To.Hub y = waiting-set w.hub_mail 0 x l k h 0 y
 waits-set w To.Hub x l k h (To.Person r) y = refl
 waits-set w To.Hub x l k h (To.Object r) y = refl
 
--- the mails do not touch the outboxes, and the other way round
+-- the mails don't change the outboxes, and outboxes don't change the mails
 out_of-with_mail : (g : Phase) (w : World) (t : To) (m : Mail Letter) (y : ℕ) → out_of g (with_mail w t m) y ≡ out_of g w y
 out_of-with_mail g w (To.Person s) m y = refl
 out_of-with_mail g w (To.Object s) m y = refl
@@ -80,7 +80,7 @@ waits-with_outbox w (ObjectShard s) os (To.Person r) x = refl
 waits-with_outbox w (ObjectShard s) os (To.Object r) x = refl
 waits-with_outbox w (ObjectShard s) os To.Hub x = refl
 
--- An empty outbox is filled: the letters stand last on their channels
+-- An empty outbox is filled: its letters come last on their channels.
 module _ (g : Phase) (w : World) (lost : Lost) (h : Shard) (os : List Out) (in_range : number h < g.shards) (empty : outbox w h ≡ []) where
   sent_here : (t : To) (x : ℕ) → x ≡ sender g h → channels g (with_outbox w h os) lost t x ≡ send (channels g w lost) (sender g h) os t x
   sent_here t x e =

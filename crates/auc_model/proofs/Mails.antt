@@ -16,7 +16,7 @@ at_both c b t s x y e f = grind (arith, nat_tests)
 off_both : {X : Type 0} (c b t s : ℕ) (x y : X) → ((c ≡ b) × (t ≡ s) → ⊥) → (if (c == b) && (t == s) then x else y) ≡ y
 off_both c b t s x y n = grind (arith, nat_tests)
 
--- what waits in the lane of a sender, and of nobody
+-- the letters in the lane of a sender, and of a number that is no sender
 pub waiting_there : {T : Type 0} (m : Mail T) (b x : ℕ) → x < m.senders → waiting m b x ≡ (lane_of m b x).waiting
 waiting_there m b x h = grind (arith, nat_tests)
 

@@ -88,7 +88,7 @@ module _ (g : Phase) (v : World) (law : Lawful g) (k : Kept g v) where
   rises s x (Letter.First j) ls e = absurd (letter_fits g v under_way law k.inv s x (Letter.First j) ls e)
   rises s x (Letter.Stop y) ls e = absurd (letter_fits g v under_way law k.inv s x (Letter.Stop y) ls e)
 
-  -- what a shard of the persons takes fits it, and tells no price below its copy
+  -- a letter that a person shard takes fits it, and has no price below its copy
   pub hears_well : (s x n : ℕ) (l : Letter) (m : Mail Letter) → Takes v.persons_mail s x n l m → FitsLetter g v s l × Rises v s l
   hears_well s x n l m p =
       let ls = left_behind g v k.lost (To.Person s) x n l m (whole_of g v k.shapes (To.Person s)) p in

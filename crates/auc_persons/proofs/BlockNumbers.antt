@@ -43,7 +43,7 @@ numbered_before before after person blocks b more numbered k d long lt =
 pub all_numbered_before : (before after : List Bound) (person blocks : ℕ) (persons : List Blocked) → AreAppended person blocks before after → All (AreNumbered before) persons → All (AreNumbered after) persons
 all_numbered_before before after person blocks persons more numbered = All-weaker (AreNumbered before) (AreNumbered after) (λ b n. numbered_before before after person blocks b more n) persons numbered
 
--- bounds of his own
+-- bounds of the person's own
 pub numbered_new : (before after : List Bound) (person blocks : ℕ) (b : Blocked) → AreAppended person blocks before after → b.person ≡ person → b.start ≡ length before → ((k : ℕ) → 256 < b.arcs → 16 * k < b.arcs → k < blocks) → AreNumbered after b
 numbered_new before after person blocks b more own start enough k d long lt =
     let n = more.new k d (enough k long lt) in
@@ -81,7 +81,7 @@ appended_push person blocks before bounds b more own unknown = record {
         let last : k ≡ blocks = omega (arith, le, lt) in
         rw (get_or_push bounds b d (length before + k) (omega (arith, more.many, last)), last) (own, unknown)
 
--- all that nobody has looked at
+-- bounds that are all unknown
 pub unknown_before : (before after : List Bound) (person blocks : ℕ) → AreAppended person blocks before after → All IsUnknown before → All IsUnknown after
 unknown_before before after person blocks more unknown k d lt = by (cases_lt k (length before))
   where

@@ -41,7 +41,7 @@ prices_more s n one object =
     ap (λ w. map (λ q. price_told s.persons q object (price_of s object)) w) (others_more n one)
     ∙ map-append (λ q. price_told s.persons q object (price_of s object)) (others n one) (cond (not (n == one)) (n ∷ []) [])
 
--- one shard more, which is told or which knows
+-- one more shard, which gets the price or knows it already
 pub prices_one : (s : Objects) (n one object : ℕ) (old now new : List Out) → (n == one) ≡ false → now ≡ old ++ prices_told s n one object → new ≡ now ++ price_told s.persons n object (price_of s object) ∷ [] → new ≡ old ++ prices_told s (n + 1) one object
 prices_one s n one object old now new ne was pushed =
     let more = prices_more s n one object ∙ ap (λ b. prices_told s n one object ++ map (λ q. price_told s.persons q object (price_of s object)) (cond (not b) (n ∷ []) [])) ne in
@@ -173,7 +173,7 @@ deals_then eps s t u xs ys said more step f g =
 pub with_shape : (eps : ℤ) (s t : Objects) (letters : List Letter) (said : List Out) (step : Step) → DealsWith eps s letters said t step → SameShape s t
 with_shape eps s t letters said step f = subst (λ (z : Objects). SameShape s z) (sym f.left) (shape_after eps s f.bids)
 
--- ---- with what the seat tells
+-- ---- with the account of the seat
 
 pub takes_none : (eps : ℤ) (room at : ℕ) (s : Objects) (a : Account Letter) (said : List Out) → said ≡ [] → Deals eps (box room at) (taker s a) said (taker s a) Step.On
 takes_none eps room at s a said none = record {

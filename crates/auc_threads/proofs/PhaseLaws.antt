@@ -238,7 +238,7 @@ trail_of n boxes nodes limits s ls named set =
 abbrev pub seats_at : {O P H : Type 0} → (Accounts → Account Letter) → Works O P H → List (Account Letter)
 seats_at a w = (map (λ x. a (accounts_of x.seats)) w.persons.items ++ map (λ x. a (accounts_of x.seats)) w.objects.items) ++ a (accounts_of w.hub.seats) ∷ []
 
--- What the trails tell, of all that came back.
+-- What the trails prove of all results.
 module _ {O P H : Type 0} (g : Setting) (o p h : Numbers) (w : Works O P H) (are : AreWorks g (rooms o.room p.room h.room) w) (named : AreNamed g.limits (length g.table.rows) o p h)
     (some : 0 < g.limits.shards) (each : length g.prices ≡ g.table.objects) (persons_many : length w.persons.items ≡ g.limits.shards) (objects_many : length w.objects.items ≡ g.limits.shards)
     (e : PhaseEnd)
@@ -340,7 +340,7 @@ pub told_map : {T : Type 0} (o : Option T) (P Q R S : T → Type 0) → IfSome o
 told_map (Some t) P Q R S p q r f = f t p q r
 told_map None P Q R S p q r f = tt
 
--- ---- the end as it is told
+-- ---- the end as it is reported
 
 pub told_some : (told end : Option End) (x : End) → IfSome told (λ e. end ≡ Some e) → told ≡ Some x → end ≡ Some x
 told_some (Some e) end x h is = h ∙ is

@@ -1,4 +1,4 @@
--- The first reason of all workers, and what the trails tell of each of them.
+-- The first reason of all workers, and what the trails prove of each worker.
 use Rattle.std.proofs.Common.{◌≡◌, ◌≢◌, ◌⊎◌, ℕ, zero, suc, ◌+◌, ◌<◌, ◌≤◌, Bool, true, false, List, [], ◌∷◌, ◌++◌, map, take, length, get_or, Some, None, refl, ap, sym, ◌∙◌, subst, inl, inr, arith, All}
 use Rattle.std.specs.Prelude.{Option}
 use Rattle.std.proofs.lemmas.List.{get_or-map}
@@ -90,7 +90,7 @@ stopped_for true first end why is e = absurd (let f = sym is ∙ e in cc)
 stopped_for false None end why is e = absurd (let f = sym is ∙ e in cc)
 stopped_for false (Some w) end why is e = let f = sym is ∙ e in cc
 
--- ---- what the trails tell
+-- ---- what the trails prove
 
 pub value_at : {X Y : Type 0} (y : X → Y) (none : Y) (xs : List X) (k : ℕ) (x : X) → k < length xs → ((d : X) → get_or xs k d ≡ x) → y x ≡ get_or (map y xs) k none
 value_at y none xs k x known at = sym (get_or-map y xs k x none known ∙ ap y (at x))

@@ -1,4 +1,4 @@
--- The end of a round with one shard of each kind: the only shard of the persons hears, and the hub counts.
+-- The end of a round with one shard of each kind: the only person shard takes a letter, and the hub counts.
 use Rattle.std.proofs.Common.{ℕ, ◌+◌, ◌*◌, ◌<◌, ◌≡◌, refl, arith, List, [], ◌∷◌, ◌++◌, None, length, get_or, set, cond, sym, ap, subst, ◌∙◌, length-set, append-nil}
 use Rattle.std.specs.Prelude.{ℤ, pos}
 use Rattle.std.proofs.lemmas.Bool.{eq-eqb, ne_eqb}
@@ -67,7 +67,7 @@ module _ (g : Phase) (one : g.shards ≡ 1) (small : g.persons < nobody) (allowe
       turn1 : Turned g w (Turn.PersonTake 0) TurnReply.Moved w1
       turn1 = PersonTakeTurn.hears 1 (k + 1) l p1 known takes fits.0 fits.1 refl refl
 
-      -- the world where so stand a person's state, the copies and the free persons
+      -- the world with these states of persons, these copies and these free persons
       abbrev behind : (ℕ → PersonState) → (ℕ → ℕ → ℤ) → (ℕ → List ℕ) → World
       behind state copy idle = record w { persons_mail = p1; state = state; copy = copy; idle = idle }
 

@@ -89,7 +89,7 @@ followed_is_square t limits None r [] next more chain e = first_is_only t next m
 followed_is_square t limits (Some prices) r [] next more chain e = let square = chain.1.2 in omega (arith, more, square)
 followed_is_square t limits start r (q ∷ rest) next more chain e = followed_is_square t limits start q rest r.eps more chain.2 chain.1.next
 
--- a phase from prices of 0 leaves none to what nobody holds
+-- a phase from prices of 0 leaves price 0 to objects without a holder
 made_price : (t : Table) (limits : Limits) (prices : List ℤ) (eps : ℤ) (made : Parts) → AreLimits limits → IsMade t limits prices eps made → (j : ℕ) → (world_of made).price j ≡ price_at prices j
 made_price t limits prices eps made ok is j =
     let some = ok.some in
@@ -195,7 +195,7 @@ module _ (p : Problem) (t : Table) (limits : Limits) (start : Option (List ℤ))
 
   -- ---- a limit has stopped the last phase
 
-  -- each holder has his object by an arc of his to it
+  -- each holder has the object by an arc of the person to it
   placed_rightly : (j : ℕ) (h : Held) → holder_at gathered.holders.items j ≡ Some h → (a : Arc) × HoldsAt p j h a
   placed_rightly j h e =
       let here = in_world p t limits s gathered its left j h e in

@@ -1,4 +1,4 @@
--- Where a text leaves the lines of picks and prices, and what such lines say.
+-- The first line at which a text has no line of a pick or a price, and the values that such lines spell.
 use Rattle.std.proofs.Common.{◌≡◌, ℕ, suc, ◌+◌, ◌-◌, ◌<◌, ◌≤◌, List, [], ◌∷◌, ◌++◌, length, replicate, refl, sym, ap, subst, ◌∙◌, arith, append_assoc}
 use Rattle.std.specs.Prelude.{ℤ, pos, All}
 use Rattle.std.proofs.lemmas.Int.{ints}

@@ -48,7 +48,7 @@ count_again front n rest h =
     let most : n ≤ 10000 = h.most in
     field_again front (pos 1) (pos 10000) 32 ((front ++ decimal n) ++ 32 ∷ rest) (pos n) rest space (small_fits n (omega arith)) (record { text = refl; low = omega (arith, ints); high = omega (arith, ints) })
 
--- how many persons, after a front
+-- the number of persons, after a front
 pub record CountsAt (front bytes : List ℕ) (n : ℕ) (rest : List ℕ) : Type 0 where
   pub text : bytes ≡ (front ++ decimal n) ++ 32 ∷ rest
   pub is : IsCount n

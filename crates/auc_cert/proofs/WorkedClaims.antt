@@ -1,4 +1,4 @@
--- What some small certificates are spelled and how they are judged, computed by the definitions.
+-- The spelling of some small certificates, and the verdicts on them, computed by the definitions.
 use Rattle.std.proofs.Common.{◌≡◌, ℕ, [], ◌∷◌, Some, None, refl}
 use Rattle.std.specs.Prelude.{◌^◌, codes, pos, neg_ℤ, ℤ}
 use Rattle.std.specs.Fmt.{digits}

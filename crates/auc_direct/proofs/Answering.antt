@@ -1,4 +1,4 @@
--- What the last phase leaves is an answer.
+-- The result of the last phase is an answer.
 use Rattle.std.proofs.Common.{Bool, true, false, ℕ, ℤ, pos, ◌≡◌, ◌<◌, refl, arith, inl, inr, List, [], ◌∷◌, length, get_or, map, Contains, Option, Some, ap, sym, subst, ◌∙◌}
 use Rattle.std.specs.Prelude.{IfOk, Result, Ok, Err, ◌⊎◌}
 use Rattle.std.specs.List.{slice_get}
@@ -266,7 +266,7 @@ first_claim p bids begun (CertParts.Optimal cost choice prices) first (inr is) =
 first_claim p bids begun (CertParts.Infeasible persons objects) first run = tt
 first_claim p bids begun (CertParts.Bracket reason lower cost choice prices) first run = (begun, first, run)
 
--- what comes of a run that began with such prices
+-- the outcome of a run that began with such prices
 pub of_first : (p : Problem) (bids : ℕ) (begun : List ℤ) (answer : Answer) → AreFirst p begun → IsOfPhases p bids begun answer → IsOfFirstPhases p bids answer
 of_first p bids begun (Answer.Optimal cert) first run = first_claim p bids begun cert first run
 of_first p bids begun (Answer.Infeasible cert) first run = tt

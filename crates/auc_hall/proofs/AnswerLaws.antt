@@ -108,7 +108,7 @@ length-chosen [] all = refl
 length-chosen (Some b ∷ choice) all = ap suc (length-chosen choice (λ k lt. all (suc k) (omega arith)))
 length-chosen (None ∷ choice) all = let x = all 0 (omega arith) in absurd (none-some x.0 x.1)
 
--- Where each person has an arc, the arcs are an assignment.
+-- If each person has an arc, the arcs are an assignment.
 pub is_assignment : (t : Table) (choice : List (Option RowArc)) (holder : List (Option ℕ)) → IsMatched t choice holder → ((i : ℕ) → i < length t.rows → IsPlaced choice i) → IsRowAssignment t (chosen choice)
 is_assignment t choice holder m done =
     let all : (i : ℕ) → i < length choice → IsPlaced choice i = λ i lt. done i (omega (arith, m.persons)) in

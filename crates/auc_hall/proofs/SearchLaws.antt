@@ -92,7 +92,7 @@ reach t choice holder queue seen y matched s new =
       };
     }
 
--- What the walk over a row keeps.
+-- The invariant of the pass over a row.
 pub record IsWalk (t : Table) (choice : List (Option RowArc)) (holder : List (Option ℕ)) (old_queue queue : List Reached) (old_seen seen : List Bool) (row : List RowArc) (i : ℕ) : Type 0 where
   pub search : IsSearch t choice holder queue seen
   pub grows : Grows old_queue queue

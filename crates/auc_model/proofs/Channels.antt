@@ -1,4 +1,4 @@
--- Channels under the turns: what a take, a post, a letter that is dropped and an outbox that is filled make of them.
+-- Channels after each kind of turn: a take, a post, a letter that is dropped, and an outbox that is filled.
 use Rattle.std.proofs.Common.{ℕ, ◌+◌, ◌<◌, ◌≡◌, ◌≢◌, refl, arith, true, false, ◌&&◌, List, [], ◌∷◌, ◌++◌, append_assoc, inl, inr, ap, sym, ◌∙◌}
 use Rattle.std.specs.Prelude.{if◌then◌else◌, ◌==◌}
 use Rattle.std.proofs.lemmas.Bool.{cases_eq, cases_Bool, eqb-true, eq-eqb, and_parts}
@@ -35,11 +35,11 @@ same_to_self (To.Person s) = grind (arith, nat_tests)
 same_to_self (To.Object s) = grind (arith, nat_tests)
 same_to_self To.Hub = refl
 
--- what waits in the mails, by channel
+-- the letters that wait in the mails, by channel
 abbrev pub waits : World → Channels
 waits w t x = waiting (mail_of w t) (box_of t) x
 
--- what waits after a lane of one of the mails is set
+-- the letters that wait after a lane of one of the mails is set
 pub waits-set : (w : World) (t : To) (x : ℕ) (l : Lane Letter) → IsWhole (mail_of w t) → HasLane (mail_of w t) (box_of t) x
     → (u : To) (y : ℕ) → waits (with_mail w t (with_lane (mail_of w t) (box_of t) x l)) u y ≡ set_channel (waits w) t x l.waiting u y
 waits-set w (To.Person s) x l k h (To.Person r) y = waiting-set w.persons_mail s x l k h r y

@@ -1,4 +1,4 @@
--- Where the hub has counted every person, the holders' arcs are an assignment of the problem.
+-- If the hub has counted every person, the holders' arcs are an assignment of the problem.
 use Rattle.std.proofs.Common.{ℕ, ℤ, zero, suc, ◌+◌, ◌<◌, ◌≤◌, ◌≡◌, ◌≢◌, refl, arith, true, false, List, [], ◌∷◌, Option, Some, length, get_or, map, Contains, All, inl, inr, ap, sym, ◌∙◌, subst}
 use Rattle.std.specs.Prelude.{filter, nat_eq, ◌==◌}
 use Rattle.std.proofs.lemmas.Option.{slice_get-get_or}

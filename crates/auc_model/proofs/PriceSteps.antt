@@ -1,4 +1,4 @@
--- How the prices about objects go on where a letter is sent, taken or dropped.
+-- The prices of objects after a letter is sent, taken or dropped.
 use Rattle.std.proofs.Common.{ℕ, ℤ, ◌≤ℤ◌, ◌+◌, ◌%◌, ◌≡◌, refl, List, [], ◌∷◌, ◌++◌, Some, None, filter_map, ap}
 use Rattle.auc_letters.specs.declared.letter.Letter.{Letter}
 use Rattle.auc_letters.specs.declared.out.Out.{Out}

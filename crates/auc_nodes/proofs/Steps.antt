@@ -1,4 +1,4 @@
--- What each call makes of a pool's parts.
+-- The parts of a pool after each call.
 use Rattle.std.proofs.Common.{◌≡◌, ◌≢◌, ℕ, ◌+◌, ◌-◌, ◌^◌, ◌<◌, List, [], ◌∷◌, ◌++◌, length, get_or, set, map, drop, refl, ap, sym, ◌∙◌, arith}
 use Rattle.std.proofs.lemmas.List.{length-map, map-set, map-append, get_or-map, get_or-set_same, get_or_read, set-get_or}
 use Rattle.auc_nodes.specs.Links.{end_of, no_ends, links_of, items_of, nodes_from, single, times, EndsWith, CanJoin, IsJoined}

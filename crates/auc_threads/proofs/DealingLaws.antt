@@ -1,4 +1,4 @@
--- What a worker of the objects makes of letters, and says of them, one after another.
+-- How an object worker deals with letters and posts about them, one after another.
 use Rattle.std.proofs.Common.{◌≡◌, ℕ, ◌+◌, ◌<◌, ◌%◌, ◌==◌, not, Bool, true, false, cond, List, [], ◌∷◌, ◌++◌, filter, map, length, Some, None, refl, ap, sym, ◌∙◌, subst, arith, append_assoc, All}
 use Rattle.std.specs.Prelude.{Option, ℤ, Ok}
 use Rattle.std.specs.List.{range_with_len}
@@ -72,7 +72,7 @@ declined_is n eps sale bid not_two = by (is_accepted eps sale bid) not_two
     by true h = absurd (h (two_of n sale.holder bid))
     by false h = refl
 
--- what is noted of a bid is what is said of it
+-- the letters noted about a bid are those to be posted about it
 pub said_accepted : (eps : ℤ) (s t : Objects) (bid : Bid) (old one two ls : List Out) (shards knowing : ℕ) → is_accepted eps (sale_of s bid.object) bid ≡ true → t ≡ after_bid s eps bid → ls ≡ answers s.person_shards eps (sale_of s bid.object) bid
     → one ≡ old ++ ls → s.person_shards ≡ shards → knowing ≡ bid.person % shards → two ≡ one ++ prices_told t shards knowing bid.object → two ≡ old ++ says eps s bid
 said_accepted eps s t bid old one two ls shards knowing accepted left letters first e know second =

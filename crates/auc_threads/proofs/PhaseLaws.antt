@@ -1,4 +1,4 @@
--- What a phase comes to, of what its workers gave back.
+-- The outcome of a phase, from the results of its workers.
 use Rattle.std.proofs.Common.{◌≡◌, ◌≢◌, ℕ, zero, suc, ◌+◌, ◌*◌, ◌%◌, ◌<◌, ◌≤◌, List, [], ◌∷◌, ◌++◌, Some, None, length, map, get_or, Bool, refl, ap, sym, ◌∙◌, subst, arith, append_assoc, All, inl, inr}
 use Rattle.std.specs.Prelude.{ℤ, pos, Option, IfSome, IsTrue, ◌↔◌}
 use Rattle.std.proofs.lemmas.Bool.{cases_lt}
@@ -153,7 +153,7 @@ module _ {O P H : Type 0} (g : Setting) (r : Rooms) (xs : List (PersonWork O P H
           let one : x.seats.objects.count ≤ g.limits.bids = bids_few _ _ _ _ _ _ _ at.1.work.buys refl in
           subst (λ (n : ℕ). n ≤ g.limits.bids) (value_at (λ x. x.seats.objects.count) d xs k x known at.2) one
 
-  -- what each of them did
+  -- the work of each of them
   pub played_told : (bids : List ℕ) → bids ≡ map (λ x. x.seats.objects.count) xs → length xs ≡ g.limits.shards → (k : ℕ) → k < g.limits.shards
       → HasPlayed g.table g.limits g.eps g.prices k (get_or bids k 0)
   played_told bids is many k low =
@@ -205,7 +205,7 @@ pushed_before [] y d j l = absurd (omega (arith, l))
 pushed_before (z ∷ ys) y d zero l = refl
 pushed_before (z ∷ ys) y d (suc j) l = pushed_before ys y d j (omega (arith, l))
 
--- one object more
+-- one more object
 pub gathers_more : {X : Type 0} (f : X → Objects) (shards n : ℕ) (xs : List X) (ps qs : List ℤ) (hs gs : List (Option Held)) (p : ℤ) (h : Option Held) (x : X)
     → qs ≡ ps ++ p ∷ [] → gs ≡ hs ++ h ∷ [] → length ps ≡ n → length hs ≡ n → n % shards < length xs → x ≡ get_or xs (n % shards) x → p ≡ price_of (f x) n → h ≡ holder_of (f x) n
     → ((j : ℕ) (d : X) → j < n → Gathers (f (get_or xs (j % shards) d)) j (get_or ps j (pos 0)) (get_or hs j None))

@@ -21,7 +21,7 @@ use Rattle.auc_world.specs.Alone.{Alone, AreTold, IsTold, Shows, freed_by, lane,
 use Rattle.auc_world.proofs.AloneMails.{step_at, take_second}
 use Rattle.auc_world.proofs.AloneSales.{set_shows}
 
--- what hearing comes to
+-- the result of taking a letter
 pub record HearEnds (g : Phase) (allowed most : ℕ) (w : World) (firsts : ℕ) (t : Alone) : Type 0 where
   pub world : World
   pub reply : TurnReply
@@ -45,7 +45,7 @@ module _ (g : Phase) (one : g.shards ≡ 1) (small : g.persons < nobody) (allowe
 
   -- a letter waits
   module _ (t : Told) (ts : List Told) (first : s.told ≡ t ∷ ts) where
-    -- what is kept after it
+    -- the state after it
     abbrev after : Alone
     after = record s { copies = set s.copies t.object t.price; told = ts; idle = s.idle ++ freed_by t }
 

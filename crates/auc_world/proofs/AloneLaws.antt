@@ -35,7 +35,7 @@ use Rattle.auc_world.proofs.AloneSales.{SaleEnds, bid_ends}
 use Rattle.auc_world.proofs.Distinct.{at_most, occurs_here}
 use Rattle.auc_world.proofs.RoundLaws.{plays_join, two_plays}
 
--- what waits for the persons fits the world
+-- the notices that wait for the persons fit the world
 pub record TellsRight (g : Phase) (s : Alone) (t : Told) : Type 0 where
   pub object : t.object < g.objects
   pub price : IsPrice t.price

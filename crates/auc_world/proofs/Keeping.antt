@@ -1,4 +1,4 @@
--- What holds of each world holds still when a shard, an outbox or a mail is another.
+-- The invariant of the parts still holds after a shard, an outbox or a mail has changed.
 use Rattle.std.proofs.Common.{ℕ, ◌*◌, ◌<◌, ◌≡◌, List, [], length, get_or, set, inl, inr, ap, ◌∙◌, arith, length-set}
 use Rattle.std.specs.Prelude.{ℤ, All, Result}
 use Rattle.std.proofs.lemmas.Bool.{cases_eq}

@@ -1,4 +1,4 @@
--- What a phase comes to: of all stops only those by a limit, and never a stall.
+-- The outcome of a phase: it is stopped only by a limit, and never stalls.
 use Rattle.std.proofs.Common.{ℕ, ℤ, pos, ◌<◌, ◌≡◌, List, Option, Some, None, sym, subst, ap, ◌∙◌, arith}
 use Rattle.auc_claim.specs.declared.reason.Reason.{Reason}
 use Rattle.std.specs.Prelude.{Ok, Err, All, ◌<ℤ◌, replicate, unsigned_abs}

@@ -108,6 +108,7 @@ AreLast k Step.Over calls = calls ≡ []
 AreLast k (Step.Stop why) calls = (posted : Result ℕ CallRefused) × (closed : Result Bool TrailFull)
     × (calls ≡ calls_stopped k why posted closed)
 
+-- the calls at the hub's mail with which a worker ends
 pub record Ends (room : ℕ) (a : Account Letter) (step : Step) (b : Account Letter) : Type 0 where
   pub calls : List Called
   pub makes : Makes room a calls b

@@ -48,6 +48,7 @@ abbrev pub told_of_sale : Option Held → ℕ → ℤ → List Told
 told_of_sale None object price = awarded object price ∷ []
 told_of_sale (Some held) object price = frees held.person object price ∷ awarded object price ∷ []
 
+-- the notices of a bid: those of an accepted one, or that the bidder is free again at the present price
 abbrev pub told_of : ℤ → Sale → Bid → List Told
 told_of eps sale bid =
     if is_accepted eps sale bid then told_of_sale sale.holder bid.object bid.amount else frees bid.person bid.object

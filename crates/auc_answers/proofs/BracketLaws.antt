@@ -1,4 +1,4 @@
--- What a bracket needs to pass: an assignment, and lawful prices, of which no more than persons are above 0.
+-- What a bracket needs to pass: an assignment, and prices in range, at most as many above 0 as there are persons.
 use Rattle.std.proofs.Common.{ℕ, ℤ, zero, suc, refl, ◌+◌, ◌<◌, ◌≡◌, ◌⊎◌, arith, true, false, eq-eqb, inl, inr, List, [], ◌∷◌, length, get_or, Option, Some, None, Contains, sym, ap, subst, ◌∙◌}
 use Rattle.std.specs.Prelude.{All, Bool, FitsSigned, map, ◌==◌, if◌then◌else◌}
 use Rattle.std.specs.List.{range_with_len}
@@ -30,7 +30,7 @@ module _ (p : Problem) (reason : Reason) (prices : List ℤ) (is : IsProblem p) 
   pub cost_fits : (choice : List Arc) → IsAssignment p choice → FitsSigned w64 (total_cost choice)
   cost_fits choice given = (assignment_spelled p choice prices is given each within).0
 
-  -- where there is an assignment, and no more objects than persons have a price
+  -- if there is an assignment, and at most as many objects as persons have a price
   pub bound_fits : AreFewPriced p prices → HasAssignment p → BoundFits p prices
   bound_fits few has lower bound = (bracket_spelled p has.0 prices lower reason is has.1 each within few bound).0
 
@@ -66,7 +66,7 @@ few_picks p picks slice is given same =
     let size = ap (λ (ps : List Pick). length ps) same in
     grind (arith, common_steps, most, many, len, size)
 
--- ---- nobody holds two objects, so no more than persons are held
+-- ---- no person holds two objects, so at most as many are held as there are persons
 
 -- the first object that this person holds
 abbrev found_by : ℕ → ℕ → List (Option Held) → ℕ
@@ -74,7 +74,7 @@ found_by i k [] = 0
 found_by i k (None ∷ hs) = found_by i (k + 1) hs
 found_by i k (Some h ∷ hs) = if h.person == i then k else found_by i (k + 1) hs
 
--- what a search for a holder finds that there is
+-- the result of a search for a holder
 record IsFound (i k : ℕ) (hs : List (Option Held)) : Type 0 where
   pub place : ℕ
   pub holder : Held
@@ -128,7 +128,7 @@ module _ (p : Problem) (holders : List (Option Held)) (prices : List ℤ) (is : 
       by None e = e
       by (Some h) e = absurd (free (held_is_among j h e))
 
-  -- so no more objects than persons have a price
+  -- so at most as many objects as persons have a price
   pub holders_price_few : length prices ≡ p.objects → IsSquare p ⊎ HasNoPriceUnheld holders prices → AreFewPriced p prices
   holders_price_few len (inl square) = square_are_few p prices square len
   holders_price_few len (inr unheld) = (held_objects, omega (arith, length-map-range_with_len (λ i. found_by i 0 holders) 0 p.persons), λ j free. unheld j (nobody_holds j free))

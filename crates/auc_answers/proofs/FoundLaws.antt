@@ -21,7 +21,7 @@ use Rattle.auc_answers.specs.Claims.{HoldsBy, IsChoiceOf, IsClaimOf, IsHoldersAr
 
 -- ---- holders and their arcs
 
--- a holder's arc is one alone
+-- a holder has exactly one arc
 pub one_arc : (p : Problem) (h : Held) (a b : Arc) → slice_get p.arcs h.arc ≡ Some a → slice_get p.arcs h.arc ≡ Some b → a ≡ b
 one_arc p h a b e f = same_Some _ _ (sym e ∙ f)
 
@@ -29,7 +29,7 @@ one_arc p h a b e f = same_Some _ _ (sym e ∙ f)
 pub is_there : (holders : List (Option Held)) (j : ℕ) (h : Held) → holder_at holders j ≡ Some h → j < length holders
 is_there holders j h e = elim (cases_lt j (length holders)) [ inl l ↦ l | inr past ↦ absurd (let b : ◌≡◌ {A = Option Held} None (Some h) = sym (get_or_past holders j None past) ∙ e in cc) ]
 
--- ---- whether a pick stands there, as the code asks it
+-- ---- whether there is a pick, as the code tests it
 
 module _ (found : List (Option Pick)) (i : ℕ) (d o : Option Pick) (there : o ≡ get_or found i d) (room : i < length found) (b : Bool) (asked : b ≡ is_some o) where
   here : get_or found i None ≡ o
@@ -62,7 +62,7 @@ pub record IsFound (p : Problem) (holders : List (Option Held)) (count person : 
   pub who : arc.person ≡ person
   pub is : pick ≡ pick_of arc
 
--- the pick of a holder stands where his person's does
+-- the pick of a holder is at its person's place
 abbrev pub Stands : Problem → Held → List (Option Pick) → Type 0
 Stands p h found = (a : Arc) × HoldsBy p h a × (get_or found a.person None ≡ Some (pick_of a))
 
@@ -113,7 +113,7 @@ module _ (p : Problem) (holders : List (Option Held)) (count : ℕ) (found : Lis
     at_other : (i : ℕ) → i ≢ arc.person → get_or written i None ≡ get_or found i None
     at_other i other = get_or-set_other found arc.person i (Some (pick_of arc)) None other
 
-    -- a holder of before is another person
+    -- an earlier holder is another person
     other_person : (a : Arc) → get_or found a.person None ≡ Some (pick_of a) → a.person ≢ arc.person
     other_person a e at = absurd (let b : ◌≡◌ {A = Option Pick} None (Some (pick_of a)) = sym free ∙ ap (λ (i : ℕ). get_or found i None) (sym at) ∙ e in cc)
 
@@ -134,7 +134,7 @@ module _ (p : Problem) (holders : List (Option Held)) (count : ℕ) (found : Lis
           | inr ne ↦ (let old = are.each j g (at_or_before count j lt ne) e in (old.0, old.1, at_other old.0.person (other_person old.0 old.2) ∙ old.2))
         ]
 
-    -- nobody of before is this person
+    -- no earlier holder is this person
     nobody : (j : ℕ) (g : Held) → j < count → holder_at holders j ≡ Some g → g.person ≡ h.person → ⊥
     nobody j g lt e same = let old = are.each j g lt e in other_person old.0 old.2 (old.1.his ∙ (same ∙ sym his))
 
@@ -310,7 +310,7 @@ module _ (p : Problem) (holders : List (Option Held)) (prices : List ℤ) (picks
   unspelled_claim cost is past choice other sound =
       past (subst (FitsSigned w64) (ap total_cost (one_choice p holders choice (chosen 0 picks) other choice_is) ∙ sym is) sound.spelled.0)
 
--- whatever choice of the holders' arcs is made, the claim is the same
+-- the claim is the same for each choice of the holders' arcs
 module _ (p : Problem) (holders : List (Option Held)) (prices : List ℤ) (cert : CertParts) (made : IsClaimOf p holders prices cert) where
   one_claim : (choice : List Arc) → IsChoiceOf p holders choice → claim_of choice prices ≡ cert
   one_claim choice is = ap (λ (xs : List Arc). claim_of xs prices) (one_choice p holders choice made.0 is made.1) ∙ sym made.2

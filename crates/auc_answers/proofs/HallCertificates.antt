@@ -1,4 +1,4 @@
--- A Hall set with all that its persons know has a certificate, and it passes the checker.
+-- A Hall set with exactly the objects of its persons has a certificate, and it passes the checker.
 use Rattle.std.proofs.Common.{◌≡◌, ℕ, ◌<◌, List, refl, sym, subst, arith, Contains}
 use Rattle.auc_graph.specs.Problem.{Problem, IsProblem, IsWithin}
 use Rattle.auc_graph.specs.Table.{Table, IsTableOf}

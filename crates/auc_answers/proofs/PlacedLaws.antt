@@ -19,7 +19,7 @@ pub nobody_there : (o : Option Held) → ((h : Held) → o ≡ Some h → ⊥) �
 nobody_there None none = refl
 nobody_there (Some h) none = absurd (none h refl)
 
--- a holder who has his object by an arc of his is a person of the problem
+-- a holder that has the object by an arc to it is a person of the problem
 pub holder_below : (p : Problem) (j : ℕ) (h : Held) (arc : Arc) → IsProblem p → HoldsAt p j h arc → h.person < p.persons
 holder_below p j h arc is right =
     let at = get_or_from_slice_get p.arcs h.arc arc arc right.by.place in
@@ -74,7 +74,7 @@ module _ (p : Problem) (holders : List (Option Held)) (count : ℕ) (choice : Li
   }
 
   module _ (t : Table) (its : IsTableOf p t) (h : Held) (here : holder_at holders count ≡ Some h) (arc : Arc) (right : HoldsAt p count h arc) (below : h.person < p.persons) where
-    -- an arc of his row with this number leads to the object
+    -- an arc of the person's row with this number leads to the object
     leads_here : (a : RowArc) → Contains (row_of t h.person) a → a.arc ≡ h.arc → a.object ≡ count
     leads_here a own numbered =
         let x = stands_for h.person p.arcs a (subst (λ (xs : List RowArc). Contains xs a) (row_is p t its h.person below) own) in
@@ -105,7 +105,7 @@ module _ (p : Problem) (holders : List (Option Held)) (count : ℕ) (choice : Li
             | inr other ↦ later i b (are.only i b (sym (at_other i other) ∙ e))
           ]
 
-      -- nobody of before is this person
+      -- no earlier holder is this person
       nobody : (j : ℕ) (g : Held) → j < count → holder_at holders j ≡ Some g → g.person ≡ h.person → ⊥
       nobody j g lt e same = let old = are.all j g lt e in none-some old.0 (sym may.unplaced ∙ (ap (pick choice) (sym same) ∙ old.1))
 
@@ -149,9 +149,9 @@ module _ (p : Problem) (holders : List (Option Held)) (count : ℕ) (choice : Li
       pub placed_more : ArePlaced p holders (count + 1) (set choice h.person (Some a))
       placed_more = record { only = only_more; all = all_more; each = each_more; once = once_more }
 
-    -- ---- where he can't be placed
+    -- ---- where the person can't be placed
 
-    -- the person already holds an object of before
+    -- the person already holds an earlier object
     holds_two : (b : RowArc) → pick choice h.person ≡ Some b → ArePlaceable p holders → ⊥
     holds_two b e can =
         let old = are.only h.person b e in

@@ -1,5 +1,4 @@
--- Where there is an assignment by the rows of a problem, each person has an arc, and there is an assignment of the
--- problem.
+-- If there is an assignment by the rows of a problem, each person has an arc, and the problem has an assignment.
 use Rattle.std.proofs.Common.{ℕ, pos, ◌≡◌, List, Some, get_or, map, refl, subst, arith, Contains}
 use Rattle.std.specs.List.{slice_get}
 use Rattle.std.proofs.lemmas.Option.{slice_get-get_or}

@@ -48,7 +48,7 @@ is_none n e = grind (arith, nat_tests)
 pub is_some : (n : ℕ) → (n == 0) ≡ false → 0 < n
 is_some n e = grind (arith, nat_tests)
 
--- The worker's next line stands at the place in any list that has all his lines.
+-- The worker's next line is at this place of any list that has all the worker's lines.
 pub next_line : {T : Type 0} (trail lines : List (TrailLine T)) (worker i place : ℕ) (x : TrailLine T)
     → i < length trail → x ≡ get_or trail i x → x.worker ≡ worker → place ≤ length lines → lines_of worker (take i trail) ≡ take place lines
     → lines_of worker trail ≡ lines → (place < length lines) × ((d : TrailLine T) → x ≡ get_or lines place d)

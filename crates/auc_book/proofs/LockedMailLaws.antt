@@ -1,4 +1,4 @@
--- What lies under the lock.
+-- The state under the lock.
 use Rattle.std.proofs.Common.{not, ◌≡◌, ℕ, ◌<◌, ◌≤◌, Bool, true, false, List, length, get_or, refl, IsTrue, ◌↔◌, All, inl, arith, ap, ◌∙◌, subst}
 use Rattle.std.specs.List.{range_with_len}
 use Rattle.std.proofs.lemmas.List.{nil_from_length}
@@ -33,7 +33,7 @@ locked_run {T} boxes workers nodes most room s es numbers run =
     ∙ ap (λ (n : ℕ). empty_mail boxes workers nodes n) numbers.most_posts)) in
     subst (λ (x : Mail T). Run x es s.mail) start run
 
--- the count of what waits in a box tells whether nothing does
+-- the number of letters that wait in a box is 0 only if none waits
 pub none_waits : {T : Type 0} (m : Mail T) (b : ℕ) → waiting_at m b ≡ 0 → NothingWaits m b
 none_waits {T} m b zero s lt =
     let f : ℕ → ℕ = λ s. length (lane_of m b s).waiting in

@@ -1,4 +1,4 @@
--- What a call that is counted and noted keeps.
+-- What is kept by a call that is counted and noted.
 use Rattle.std.proofs.Common.{◌≡◌, ℕ, ◌+◌, ◌<◌, List, [], ◌∷◌, ◌++◌, length, true, refl, ap, sym, ◌∙◌, subst, arith, All, length-append}
 use Rattle.std.proofs.lemmas.List.{map_push, length-replicate}
 use Rattle.std.proofs.lemmas.List.Elements.{All-push, All-weaker, All-nil}

@@ -25,7 +25,7 @@ one_more {T} old a new k before fresh after =
     ∙ (ap (λ (p : Account T). map new_account (range_with_len 0 k) ++ p ∷ []) fresh
     ∙ sym (map-range_with_len_more new_account 0 k k (omega arith))))
 
--- what removing a seat takes
+-- the effect of removing a seat
 pub takes_seat : {T : Type 0} (k : ℕ) (xs : List (Account T)) (i : ℕ) (s : Account T) → IsPlaceOf k xs i → s ≡ get_or xs i s → TakesSeat k xs s (take i xs ++ drop (suc i) xs)
 takes_seat {T} k xs i s at read =
     let lt : i < length xs = at.here in

@@ -1,4 +1,4 @@
--- What the lines of a seat tell of what was sent and handed out.
+-- What the lines of a seat show of what was sent and handed out.
 use Rattle.std.proofs.Common.{◌≡◌, ◌≢◌, ⊎_elim, ℕ, ◌<◌, ◌==◌, ◌&&◌, Bool, true, false, cond, List, [], ◌∷◌, ◌++◌, All, ◌∙◌, refl, sym, ap}
 use Rattle.std.proofs.lemmas.List.Elements.{All-weaker, All-head, All-tail}
 use Rattle.std.proofs.lemmas.Bool.{cases_eq}
@@ -56,7 +56,7 @@ gathered {T} one all_of step w (l ∷ ls) none =
     step l ls ∙ (ap (λ x. x ++ all_of ls) (All-head (λ (l : TrailLine T). l.worker ≢ w → one l ≡ []) l ls none ne) ∙ (rest ∙ ap all_of gone)))
     (cases_eq l.worker w)
 
--- so each seat that agrees tells what its worker sent, and what was handed to him
+-- so each seat that agrees shows what its worker sent, and what was handed to the worker
 pub tells_sent : {T : Type 0} (workers : ℕ) (trail : List (TrailLine T)) → All (λ l. (l.worker < workers) × IsOwn l.worker l.call) trail
     → (a : Account T) → Agrees trail a → TellsSent trail a
 tells_sent {T} workers trail own a agrees b =

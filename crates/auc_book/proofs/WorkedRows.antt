@@ -73,7 +73,7 @@ trail_runs = (
 pub seats_agree : Agrees three_lines first × Agrees three_lines second
 seats_agree = (refl, refl)
 
--- what was sent and handed out, told by the trail and by the seats
+-- what was sent and handed out, by the trail and by the seats
 pub letters_told : (sent 0 0 (events_of three_lines) ≡ 5 ∷ []) × (sent 0 1 (events_of three_lines) ≡ 6 ∷ []) × (handed 0 0 (events_of three_lines) ≡ 5 ∷ []) × (handed 0 1 (events_of three_lines) ≡ [])
 letters_told = (refl, refl, refl, refl)
 
@@ -88,7 +88,7 @@ counted_together = refl
 pub one_missing : IsUnsettled 2 3 (first ∷ []) Missing
 one_missing = (omega arith, (1, omega arith, All-cons (λ (a : Account ℕ). a.worker ≢ 1) first [] (λ e. absurd (omega (arith, e))) (All-nil (λ (a : Account ℕ). a.worker ≢ 1))))
 
--- a refused post is noted in the seat with its refusal; where no place is left, it is counted apart
+-- a refused post is noted in the seat with its refusal; where no place is left, it is counted separately
 pub refusals_noted : SeatCalls 3 second (Post 1 0 7 4) (post_reply (Err refused.Full)) (record { worker = 1; count = 2; turned_away = 0; lines = post_line 1 6 ∷ (record { worker = 1; call = Post 1 0 7 4; reply = Refused Full }) ∷ [] })
 refusals_noted = (refl, refl, refl, refl)
 

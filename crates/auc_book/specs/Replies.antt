@@ -1,4 +1,4 @@
--- The mail's reply that the result of a worker's call stands for: none where no more calls could be noted.
+-- The mail's reply that the result of a worker's call stands for; there is none where no more calls can be noted.
 use Rattle.std.specs.Prelude.{ℕ, Bool, Option, Some, None, Result, Ok, Err}
 use Rattle.auc_mail.specs.declared.call.PostRefused.TheVariants.{Closed, Spent, Full}
 use Rattle.auc_mail.specs.declared.call.Taken.{Taken}

@@ -1,20 +1,14 @@
-mod PlaceLaws
-mod PickLaws
+-- for use above
+pub mod PlaceLaws
+pub mod PickLaws
+pub mod ToldLaws
+-- for this crate
 mod StartLaws
 mod RunLaws
 mod HandLaws
 mod MadeLaws
 mod SolvingLaws
 mod CheckLaws
-mod ToldLaws
 mod ToldChecks
 mod LimitedLaws
 mod DriverLaws
-mod TableLaws
-mod TriedLaws
-mod ShownLaws
-mod EntryLaws
-mod FaultLaws
-mod NamingLaws
-mod ToldTables
-mod WorkedTables

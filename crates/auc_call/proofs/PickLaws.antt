@@ -6,8 +6,7 @@ use Rattle.std.proofs.lemmas.Option.{slice_get-get_or, slice_get_within, get_or_
 use Rattle.auc_graph.specs.declared.arc.Arc.{Arc}
 use Rattle.auc_claim.specs.declared.lists.Pick.{Pick}
 use Rattle.auc_claim.specs.Claim.{arc_of, chosen, pick_of}
-use Rattle.auc_call.specs.Memory.{AreAt}
-use Rattle.auc_call.specs.Naming.{no_arc}
+use Rattle.auc_call.specs.Memory.{AreAt, no_arc}
 use Rattle.auc_call.specs.Checking.{IsMisplaced}
 use Rattle.auc_call.proofs.PlaceLaws.{no_pick, length_chosen, chosen_at}
 

@@ -6,8 +6,7 @@ use Rattle.auc_graph.specs.declared.arc.Arc.{Arc}
 use Rattle.auc_graph.specs.Rising.{Rises}
 use Rattle.auc_claim.specs.declared.lists.Pick.{Pick}
 use Rattle.auc_claim.specs.Claim.{arc_of, chosen}
-use Rattle.auc_call.specs.Memory.{AreAt}
-use Rattle.auc_call.specs.Naming.{no_arc}
+use Rattle.auc_call.specs.Memory.{AreAt, no_arc}
 
 abbrev pub no_pick : Pick
 no_pick = record { cost = pos 0; object = 0 }

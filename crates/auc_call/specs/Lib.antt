@@ -9,11 +9,5 @@ pub mod Running
 pub mod Limited
 pub mod Drivers
 pub mod Answers
-pub mod Naming
-pub mod Table
-pub mod Entries
-pub mod TableSolving
-pub mod Tried
-pub mod Quick
 pub mod Given
 pub mod Told

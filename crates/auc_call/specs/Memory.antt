@@ -1,5 +1,5 @@
 -- What stands in the caller's memory.
-use Rattle.std.specs.Prelude.{◌≡◌, ℕ, ℤ, List, length, drop, map, slice_get, Some}
+use Rattle.std.specs.Prelude.{◌≡◌, ℕ, ℤ, pos, List, length, drop, map, slice_get, Some}
 use Rattle.auc_graph.specs.declared.arc.Arc.{Arc}
 use Rattle.auc_graph.specs.Problem.{Problem}
 
@@ -21,6 +21,10 @@ pub record AreSizes (p : Problem) (m : Memory) : Type 0 where
   pub choice : length m.choice ≡ p.persons
   pub prices : length m.prices ≡ p.objects
   pub set : length m.set ≡ p.persons
+
+-- what stands in place of an arc where a list has none
+abbrev pub no_arc : Arc
+no_arc = record { cost = pos 0; person = 0; object = 0 }
 
 -- at these places of the list stand these arcs
 abbrev pub AreAt : List Arc → List ℕ → List Arc → Type 0

@@ -10,10 +10,7 @@ use Rattle.auc_call.specs.Answers.{IsBracketTold, IsClaimFaultTold, IsHallFaultT
 use Rattle.auc_call.specs.Checking.{AreClaimSizes}
 use Rattle.auc_call.specs.Codes.{IsListFault, IsStartFault}
 use Rattle.auc_call.specs.Memory.{Memory, AreSizes}
-use Rattle.auc_call.specs.Naming.{ByObjects}
 use Rattle.auc_call.specs.Shown.{IsLeastAt, IsHallAt}
-use Rattle.auc_call.specs.Table.{table_fault}
-use Rattle.auc_call.specs.TableSolving.{AreTableSizes}
 use Rattle.auc_call.specs.Telling.{solve_statuses, check_statuses, KeepsFound, KeepsMemory, KeepsChecked}
 
 -- A solve. `Fits` is what the caller's memory has to be, `list` and `unfit` are the faults of the problem and of the
@@ -39,11 +36,6 @@ AtThese places Holds = Holds places
 abbrev pub IsListTold : Problem → Option StartFault → ℤ → Memory → Memory → Found → Found → Type 0
 IsListTold p unfit status before after old new =
     IsTold p (AreSizes p before) (problem_fault p) unfit (AtThese after.choice) status before after old new
-
--- a solve of a table, which names objects in place of arcs
-abbrev pub IsTableTold : Problem → ℕ → ℕ → Option StartFault → ℤ → Memory → Memory → Found → Found → Type 0
-IsTableTold p stride entries unfit status before after old new =
-    IsTold p (AreTableSizes p stride entries before) (table_fault p) unfit (ByObjects p.arcs after.choice) status before after old new
 
 -- A check: `Fits` is as for a solve, `Shown` what passes, `Holds` what is then true, and `Faulty` tells a fault by its
 -- kind and place.

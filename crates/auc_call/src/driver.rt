@@ -17,7 +17,7 @@ use std::alloc::{AllocError, Global};
 
 /// Which solver answers a call.
 #[derive(Clone, Copy, Debug, PartialEq, Eq)]
-pub(crate) enum Driver {
+pub enum Driver {
     /// The one in one hand, which starts from any prices.
     Direct,
     /// The one by messages, which starts only where there are as many objects as persons.

@@ -13,21 +13,6 @@ pub struct GivenArcs<'a> {
     pub arcs: &'a [Arc],
 }
 
-/// A problem of a table, which has a row for each person and in it an entry for each object.
-#[derive(Clone, Copy)]
-pub struct GivenTable<'a> {
-    /// How many rows there are.
-    pub persons: u32,
-    /// How many entries a row has; 0 stands for as many as persons.
-    pub objects: u32,
-    /// The entries: the cost of person `i` and object `j` stands at `costs[i * stride + j]`.
-    pub costs: &'a [i64],
-    /// How many places a row begins after the one before it.
-    pub stride: usize,
-    /// An entry that equals this number is no arc.
-    pub gap: i64,
-}
-
 /// Where a run starts, and how long it may take.
 #[derive(Clone, Copy)]
 pub struct Run<'a> {

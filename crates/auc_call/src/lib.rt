@@ -1,8 +1,8 @@
 //! The solver and the checker over a caller's memory: what a C program holds goes in, and a status comes out.
 //!
-//! [`solve_call`], [`solve_table_call`], [`solve_by_messages_call`], [`check_call`] and [`check_hall_call`] are what
-//! the crate `sigdorf_c` exports. Each says by its status which of its promises holds of what it has written. No call
-//! keeps anything after its return.
+//! [`solve_call`], [`solve_by_messages_call`], [`check_call`] and [`check_hall_call`] are what the crate `sigdorf_c`
+//! exports. Each says by its status which of its promises holds of what it has written. No call keeps anything after
+//! its return. Of [`solve_problem`] and [`tell_solved`] the crate `auc_dense` makes the call over a table.
 #![tactic(auto)]
 
 mod calls;
@@ -13,23 +13,20 @@ mod driver;
 mod found;
 mod given;
 mod handing;
-mod naming;
 mod picking;
 mod places;
-mod quick;
 mod solved;
 mod solving;
 mod start;
 mod status;
-mod table;
-mod table_call;
-mod table_solving;
 mod telling;
-mod trying;
 
 pub use calls::{check_call, check_hall_call, solve_by_messages_call, solve_call};
+pub use driver::Driver;
 pub use found::Found;
-pub use given::{GivenArcs, GivenTable, Run};
+pub use given::{GivenArcs, Run};
+pub use solved::{Failed, Solved};
+pub use solving::solve_problem;
+pub use start::StartFault;
 pub use status::{BRACKET, INFEASIBLE, INVALID, MEMORY, OPTIMAL, REFUSED, SIZES, START};
-pub use table::arcs_are_entries;
-pub use table_call::solve_table_call;
+pub use telling::tell_solved;

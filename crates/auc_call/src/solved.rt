@@ -10,7 +10,7 @@ use std::alloc::AllocError;
 
 /// What was found, but for what stands in the caller's memory.
 #[derive(Clone, Copy, Debug, PartialEq, Eq)]
-pub(crate) enum Solved {
+pub enum Solved {
     Optimal {
         cost: i64,
     },
@@ -27,7 +27,7 @@ pub(crate) enum Solved {
 
 /// Why nothing was found.
 #[derive(Clone, Copy, Debug, PartialEq, Eq)]
-pub(crate) enum Failed {
+pub enum Failed {
     Sizes,
     Fault(ListFault),
     Start(StartFault),

@@ -39,7 +39,7 @@ fn hand_out(
 }
 
 /// Solves a problem by this solver, and writes the answer into the caller's memory.
-pub(crate) fn solve_problem(
+pub fn solve_problem(
     alloc: Global,
     driver: Driver,
     problem: &ArcList,

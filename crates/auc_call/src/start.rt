@@ -11,7 +11,7 @@ use auc_graph::ArcList;
 
 /// Why no run can start from the prices.
 #[derive(Clone, Copy, Debug, PartialEq, Eq)]
-pub(crate) enum StartFault {
+pub enum StartFault {
     /// There are more objects than persons: only a run by messages can't start then.
     NotSquare,
     /// They aren't as many as the objects.

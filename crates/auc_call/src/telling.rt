@@ -33,7 +33,7 @@ fn tell_failed(failed: Failed, found: &mut Found) -> i32
 }
 
 /// Tells what a solve comes to.
-pub(crate) fn tell_solved(solved: Result<Solved, Failed>, found: &mut Found) -> i32
+pub fn tell_solved(solved: Result<Solved, Failed>, found: &mut Found) -> i32
     ensures status { result ≡ solve_status solved }
     ensures found { found.new ≡ solve_found solved found.old }
 {

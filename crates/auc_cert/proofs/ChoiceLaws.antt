@@ -1,4 +1,4 @@
--- Where a text leaves the lines of picks and prices, and what such lines say.
+-- The first line at which a text has no line of a pick or a price, and the values that such lines spell.
 use Rattle.std.proofs.Common.{◌≡◌, ℕ, suc, ◌+◌, ◌-◌, ◌<◌, ◌≤◌, List, [], ◌∷◌, ◌++◌, length, replicate, refl, sym, ap, subst, ◌∙◌, arith, append_assoc}
 use Rattle.std.specs.Prelude.{ℤ, pos, All}
 use Rattle.std.proofs.lemmas.Int.{ints}
@@ -35,7 +35,7 @@ length_numbered line k (x ∷ xs) = ap suc (length_numbered line (k + 1) xs)
 pub joined_append : (a b : List (List ℕ)) → joined (a ++ b) ≡ joined a ++ joined b
 joined_append a b = flat_map-append (λ (l : List ℕ). l) a b
 
--- how many objects a claim of so many picks and prices numbers
+-- the number of objects that a claim with these numbers of picks and prices can number
 abbrev pub most_for : ℕ → ℕ → ℕ
 most_for n m = most_in (version_of_sizes n m)
 

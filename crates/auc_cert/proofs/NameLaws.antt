@@ -1,4 +1,4 @@
--- Where a text leaves the lines of the persons and objects that are named, and what such lines say.
+-- The first line at which a text has no line of a named person or object, and the values that such lines spell.
 use Rattle.std.proofs.Common.{◌≡◌, ℕ, ◌+◌, ◌-◌, ◌<◌, ◌≤◌, List, [], ◌∷◌, ◌++◌, length, refl, sym, ap, subst, ◌∙◌, arith, append_assoc}
 use Rattle.std.specs.Prelude.{codes, All}
 use Rattle.std.proofs.lemmas.List.{append-nil, length-append}

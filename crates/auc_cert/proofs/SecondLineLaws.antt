@@ -21,7 +21,7 @@ use Rattle.auc_cert.proofs.WordLaws.{bind_some, some_is, after_takes, after_agai
 use Rattle.auc_cert.proofs.LineLaws.{two_fields, space, line_end, small_fits}
 use Rattle.auc_cert.proofs.TextLines.{IsLine, lacks, all_lack, and_then, and_number, digits}
 
--- a second line that was read, and what stands after it
+-- a second line that was read, and the bytes after it
 abbrev pub IsRead : Version → List ℕ → SecondLine × List ℕ → Type 0
 IsRead v bytes x = (bytes ≡ second_line v x.0 ++ x.1) × IsSecondLine v x.0
 
@@ -48,7 +48,7 @@ count_again front n rest h =
     let most : n ≤ 10000 = h.most in
     field_again front (pos 1) (pos 10000) 32 ((front ++ decimal n) ++ 32 ∷ rest) (pos n) rest space (small_fits n (omega arith)) (record { text = refl; low = omega (arith, ints); high = omega (arith, ints) })
 
--- how many persons, after a front
+-- the number of persons, after a front
 pub record CountsAt (front bytes : List ℕ) (n : ℕ) (rest : List ℕ) : Type 0 where
   pub text : bytes ≡ (front ++ decimal n) ++ 32 ∷ rest
   pub is : IsCount n
@@ -195,7 +195,7 @@ reason_again Posts = refl
 reason_again Trail = refl
 reason_again Mail = refl
 
--- no mark stands in a reason's word
+-- no mark is in a reason's word
 reason_is_word : (reason : Reason) → (lacks 32 (reason_word reason) && lacks 10 (reason_word reason)) ≡ true
 reason_is_word Bids = refl
 reason_is_word Ceiling = refl

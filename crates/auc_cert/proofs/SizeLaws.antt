@@ -1,4 +1,4 @@
--- Which sizes and names the text of a version has.
+-- The sizes and names that the text of each version has.
 use Rattle.std.proofs.Common.{◌≡◌, ℕ, ◌+◌, ◌≤◌, ◌<◌, List, [], ◌∷◌, length, refl, sym, subst, ◌∙◌, arith, inl, inr}
 use Rattle.std.proofs.lemmas.Bool.{cases_lt, cases_eq}
 use Rattle.auc_graph.specs.Rising.{Rises}

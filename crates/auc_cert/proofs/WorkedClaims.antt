@@ -1,4 +1,4 @@
--- What some small certificates are spelled and how they are judged, computed by the definitions.
+-- The spelling of some small certificates, and the verdicts on them, computed by the definitions.
 use Rattle.std.proofs.Common.{◌≡◌, ℕ, [], ◌∷◌, Some, None, refl}
 use Rattle.std.specs.Prelude.{◌^◌, codes, pos, neg_ℤ, ℤ}
 use Rattle.std.specs.Fmt.{digits}
@@ -67,7 +67,7 @@ object_twice = refl
 wrong_cost : fault_of two_persons (Optimal (pos 4) (pick 1 (pos 2) ∷ pick 0 (pos 1) ∷ []) (pos 7 ∷ pos 5 ∷ [])) ≡ Some WrongCost
 wrong_cost = refl
 
--- two persons who know the first object alone
+-- two persons with an arc to the first object alone
 abbrev one_object : Problem
 one_object = record { persons = 2; objects = 2; arcs = arc 0 0 (pos 5) ∷ arc 1 0 (pos 7) ∷ [] }
 
@@ -129,7 +129,7 @@ cost_before_bound = refl
 
 -- ---- more objects than persons
 
--- one person, who knows two objects, and the certificate that he takes the second one at these prices
+-- one person with arcs to two objects, and the certificate that assigns the second one at these prices
 abbrev one_person : Problem
 one_person = record { persons = 1; objects = 2; arcs = arc 0 0 (pos 5) ∷ arc 0 1 (pos 3) ∷ [] }
 

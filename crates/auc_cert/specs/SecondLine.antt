@@ -1,4 +1,4 @@
--- The second line of a certificate: it tells the kind of the claim, and how many lines of which shape follow.
+-- The second line of a certificate: the kind of the claim, and the number and the shape of the lines that follow.
 use Rattle.std.specs.Prelude.{◌≡◌, ℕ, ◌≤◌, ◌<◌, List, FitsSigned}
 use Rattle.std.specs.Int.{w64}
 use Rattle.auc_claim.specs.declared.version.Version.{Version}
@@ -9,59 +9,59 @@ use Rattle.auc_claim.specs.Spelled.{most_persons, most_objects, most_in, most_na
 use Rattle.auc_cert.specs.Text.{optimal_line, infeasible_line, bracket_line}
 use Rattle.auc_cert.specs.CertReading.{ChoiceLines, NameLines}
 
--- what it says, as a line
+-- the second line as bytes
 abbrev pub second_line : Version → SecondLine → List ℕ
 second_line version (Optimal persons objects cost) = optimal_line version persons objects cost
 second_line version (Infeasible persons objects) = infeasible_line persons objects
 second_line version (Bracket reason persons objects lower cost) = bracket_line version reason persons objects lower cost
 
--- the persons of a claim
+-- the range of the number of persons of a claim
 pub record IsCount (n : ℕ) : Type 0 where
   pub some : 1 ≤ n
   pub most : n ≤ most_persons
 
--- so many persons and objects a claim may have
+-- the limits of the numbers of persons and objects of a claim
 pub record AreCounted (persons objects : ℕ) : Type 0 where
   pub some : 1 ≤ persons
   pub most : persons ≤ most_persons
   pub enough : persons ≤ objects
   pub few : objects ≤ most_objects
 
--- the objects of a claim: in version 1 as many as persons, in version 2 more
+-- the number of objects of a claim: in version 1 as many as persons, in version 2 more
 abbrev pub AreObjects : Version → ℕ → ℕ → Type 0
 AreObjects First persons objects = objects ≡ persons
 AreObjects Second persons objects = (persons < objects) × (objects ≤ most_objects)
 
--- the persons and the objects of a claim
+-- the numbers of persons and objects of a claim, by version
 pub record AreSizes (version : Version) (persons objects : ℕ) : Type 0 where
   pub count : IsCount persons
   pub beside : AreObjects version persons objects
 
--- how many objects a claim names at least: version 2 is for those that name an object above 10,000
+-- the least number of objects that a claim names: version 2 is for those that name an object above 10,000
 abbrev pub least_named : Version → ℕ
 least_named First = 0
 least_named Second = 1
 
--- and the least object, numbered from 0, that may be the last one
+-- the least object, counted from 0, that may be the last one named
 abbrev pub least_last : Version → ℕ
 least_last First = 0
 least_last Second = most_in First
 
--- how many persons and objects a claim names
+-- the numbers of persons and objects that a claim names
 pub record AreCounts (version : Version) (persons objects : ℕ) : Type 0 where
   pub some : 1 ≤ persons
   pub most : persons ≤ most_persons
   pub some_objects : least_named version ≤ objects
   pub few : objects ≤ most_named
 
--- its numbers are in range
+-- the numbers of the line are in range
 abbrev pub IsSecondLine : Version → SecondLine → Type 0
 IsSecondLine version (Optimal persons objects cost) = AreSizes version persons objects × FitsSigned w64 cost
 IsSecondLine version (Infeasible persons objects) = AreCounts version persons objects
 IsSecondLine version (Bracket reason persons objects lower cost) =
     AreSizes version persons objects × FitsSigned w64 lower × FitsSigned w64 cost
 
--- what can stand after it
+-- the lines that may follow the second line
 abbrev pub LinesBehind : Version → SecondLine → List (List ℕ) → Type 0
 LinesBehind version (Optimal persons objects cost) = ChoiceLines persons objects
 LinesBehind version (Infeasible persons objects) = NameLines version persons objects

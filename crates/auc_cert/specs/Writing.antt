@@ -1,15 +1,15 @@
--- What a call that writes has done.
+-- The effect of a call that writes.
 use Rattle.std.specs.Prelude.{◌≡◌, ℕ, ◌<◌, ◌+◌, List, [], ◌++◌, fold, length, codes, Option, Result, Ok, Err}
 use Rattle.std.specs.Fmt.{decimal, signed_decimal}
 use Rattle.std.specs.Io.KnownBytes.{Appends}
 use Rattle.auc_cert.specs.declared.output.Part.{Part}
 use Rattle.auc_cert.specs.declared.output.Part.TheVariants.{Words, Space, LineEnd, Count, Place, Number}
 
--- after what the writer had stands a beginning of this text, and not all of it
+-- the writer has got a beginning of this text, and not all of it
 abbrev pub Begins : Option (List ℕ) → Option (List ℕ) → List ℕ → Type 0
 Begins old new text = (done : List ℕ) × (rest : List ℕ) × (0 < length rest) × (done ++ rest ≡ text) × Appends old new done
 
--- At Ok just this text stands after what the writer had, and at Err a beginning of it.
+-- At Ok the writer has got exactly this text after what it had, and at Err a beginning of it.
 abbrev pub Writes : {X E : Type 0} → Result X E → Option (List ℕ) → Option (List ℕ) → List ℕ → Type 0
 Writes (Ok x) old new text = Appends old new text
 Writes (Err e) old new text = Begins old new text

@@ -1,4 +1,4 @@
--- What the checker's answers say of the claim.
+-- What the checker's verdicts prove of the claim.
 use Rattle.std.proofs.Common.{◌≡◌, ℕ, suc, ◌+◌, ◌<◌, Bool, true, false, cond, not, eq-eqb, ◌&&◌, ◌||◌, eqb, nat_lt, List, [], ◌∷◌, ◌++◌, length, map, get_or, Option, Some, None, refl, sym, ap, subst, ◌∙◌, arith, inl, inr, All}
 use Rattle.std.specs.Prelude.{Result, Ok, Err, IsOk, ℤ, pos, ◌+ℤ◌, ◌≤ℤ◌, nat_eq, ◌==◌, Contains, int_le}
 use Rattle.std.specs.List.{position, position_or_len, list_any, list_all, IsDistinct, AllByRecursion, range_with_len}
@@ -245,7 +245,7 @@ none_in_front [] ys h = (refl, h)
 none_in_front (None ∷ xs) ys h = none_in_front xs ys h
 none_in_front (Some x ∷ xs) ys h = absurd cc
 
--- what was answered by Ok has no fault
+-- a claim accepted by Ok has no fault
 pub ok_is_none : {X : Type 0} (r : Result X CertRefused) (fault : Option CertRefused) → IsOk r → AnswersUnless NoMemory (λ x. x) r (IsVerdict fault) → fault ≡ None
 ok_is_none (Ok x) fault ok h = h
 ok_is_none (Err e) fault ok h = absurd cc
@@ -284,7 +284,7 @@ faultless_is_allowed p (Bracket reason lower cost choice prices) is spelled none
       bound = λ other others. least.least (total_cost other) (dual_is_below p prices is.within choice_is.priced other others (not_negative prices spelled.2.fair));
     }
 
--- in persons who know too few objects the checker finds no fault
+-- the checker finds no fault in a Hall set
 pub hall_sets_faultless : (p : Problem) (persons objects : List ℕ) → IsHallSet p persons objects → ((j : ℕ) → Contains objects j → j < p.objects) → fault_of p (Infeasible persons objects) ≡ None
 hall_sets_faultless p persons objects set within = rw (hall_set_passes p persons objects set within) refl
 
@@ -308,7 +308,7 @@ below_from p k (c ∷ choice) is all =
     let within : IsWithin p.persons p.objects (arc_of k c) = subst (IsWithin p.persons p.objects) there.2 (is.within there.0 (arc_of k c) there.1) in
     All-cons (λ (d : Pick). d.object < p.objects) c choice within.object (below_from p (k + 1) choice is (All-tail (λ (a : Arc). is_missing p.arcs a ≡ false) (arc_of k c) (chosen (k + 1) choice) all))
 
--- who picks an arc of his picks an object of the problem
+-- a person who picks an arc of its row picks an object of the problem
 pub objects_below : (p : Problem) (n : ℕ) (choice : List Pick) → IsProblem p → n ≡ p.objects → position (is_missing p.arcs) (chosen 0 choice) ≡ None → All (λ c. c.object < n) choice
 objects_below p n choice is same none = rw same (below_from p 0 choice is (all_fail (is_missing p.arcs) (chosen 0 choice) none))
 

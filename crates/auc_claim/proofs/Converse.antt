@@ -1,4 +1,4 @@
--- What is an assignment, of the cost that is named, finds no fault: the converse of what the checker's answers say.
+-- The converse of what the checker's verdicts prove: an assignment with the right cost has no fault.
 use Rattle.std.proofs.Common.{◌≡◌, ℕ, zero, suc, ◌+◌, ◌*◌, ◌^◌, ◌≤◌, ◌<◌, Bool, true, false, not, ◌&&◌, ◌||◌, eqb, eq-eqb, List, [], ◌∷◌, length, map, get_or, None, refl, sym, ap, subst, ◌∙◌, arith, inl, inr, All}
 use Rattle.std.specs.Prelude.{ℤ, pos, neg_ℤ, ◌+ℤ◌, ◌≤ℤ◌, nat_eq, Contains, int_le, T}
 use Rattle.std.specs.List.{position, list_any, IsDistinct, AllByRecursion, range_with_len}
@@ -134,14 +134,14 @@ module _ (p : Problem) (choice : List Arc) (given : IsAssignment p choice) (pric
       let sum : not (int_eq cost (total_cost (chosen 0 (map pick_of choice)))) ≡ false = right_cost cost (total_cost (chosen 0 (map pick_of choice))) (right ∙ ap total_cost (sym back)) in
       rw (size, there, once, sum) refl
 
-  -- an assignment that is slack-right at 1 and leaves no price
+  -- an assignment that satisfies epsilon-complementary slackness at eps 1 and leaves no unassigned object with a price
   pub slack_right_faultless : All (IsSlackRight (pos 1) (scale_of p) prices p.arcs) choice → IsNoPriceLeft prices choice → fault_of p (Optimal cost (map pick_of choice) prices) ≡ None
   slack_right_faultless slack left =
       let none : position (λ c. not (is_slack_right (scale_of p) prices p.arcs c)) (chosen 0 (map pick_of choice)) ≡ None = ap (position (λ c. not (is_slack_right (scale_of p) prices p.arcs c))) back ∙ none_worse (scale_of p) prices p.arcs choice a_zero slack in
       let over : position (is_left_over (map pick_of choice) prices) (range_with_len 0 (length prices)) ≡ None = none_left_over (map pick_of choice) prices (λ j free. left j (subst (λ (js : List ℕ). ¬ Contains js j) same_objects free)) in
       behind_none (choice_faults p cost (map pick_of choice) prices) (slack_fault p (map pick_of choice) prices ∷ left_over_fault (map pick_of choice) prices ∷ []) choice_faultless ∙ rw (none, over) refl
 
-  -- an assignment, and the bound of some prices
+  -- an assignment, with the dual bound of some prices
   pub bracket_faultless : (reason : Reason) (lower : ℤ) → IsLower (scale_of p) (dual p prices) lower → fault_of p (Bracket reason lower cost (map pick_of choice) prices) ≡ None
   bracket_faultless reason lower is =
       let passes = lower_passes p.persons (dual p prices) lower is in
@@ -169,7 +169,7 @@ costs_between m n arcs (a ∷ choice) within known =
     let high = w.high in
     (omega (arith, ints, rest.0, low), omega (arith, ints, rest.1, high))
 
--- a problem's objects are numbered by the version of its claims
+-- the version of a claim can number the problem's objects
 within_version : (n m persons objects : ℕ) → n ≡ persons → m ≡ objects → persons ≤ 10000 → objects ≤ 20000 → objects ≤ most_in (version_of_sizes n m)
 within_version n m persons objects size len most few =
     elim (cases_eq m n) [

@@ -1,4 +1,4 @@
--- A flag for each person, as the arcs are gone through.
+-- A flag for each person, updated arc by arc.
 use Rattle.std.proofs.Common.{◌≡◌, ◌≢◌, ℕ, zero, suc, ◌+◌, ◌<◌, Bool, true, false, not, ◌&&◌, List, [], ◌∷◌, ◌++◌, length, map, get_or, take, set, replicate, refl, sym, ap, ◌∙◌, arith, eqb}
 use Rattle.std.specs.Prelude.{ℤ}
 use Rattle.std.specs.List.{list_all}
@@ -9,7 +9,7 @@ use Rattle.auc_graph.specs.declared.arc.Arc.{Arc}
 use Rattle.auc_claim.specs.declared.lists.Pick.{Pick}
 use Rattle.auc_claim.specs.Claim.{arc_of, chosen, same_arc, is_slack_beside}
 
--- a test that asks nothing of two arcs of different persons
+-- a test that passes for two arcs of different persons
 abbrev pub IsOwn : (Arc → Arc → Bool) → Type 0
 IsOwn test = (c a : Arc) → c.person ≢ a.person → test c a ≡ true
 

@@ -1,4 +1,4 @@
--- What the test of persons who know too few objects finds, and of whom.
+-- The test of a Hall set: what it proves, and what passes it.
 use Rattle.std.proofs.Common.{◌≡◌, ℕ, ◌+◌, zero, suc, ◌<◌, ◌≤◌, Bool, true, false, not, ◌||◌, List, [], ◌∷◌, length, get_or, refl, sym, ap, subst, ◌∙◌, arith, eqb, Contains, All}
 use Rattle.std.specs.Prelude.{◌&&◌, nat_lt}
 use Rattle.std.specs.List.{list_all}
@@ -114,7 +114,7 @@ same_all : {X : Type 0} (f g : X → Bool) (xs : List X) → ((x : X) → Contai
 same_all f g [] h = refl
 same_all f g (x ∷ xs) h = rw (h x (0, omega arith, refl), same_all f g xs (λ y c. h y (suc c.0, omega (arith, c.1), c.2))) refl
 
--- what the code has of the test: two lists of flags
+-- the test as the code makes it: by two lists of flags
 pub told_by_flags : (p : Problem) (persons objects : List ℕ) (listed known : List Bool) → are_below p.persons persons ≡ true → are_below p.objects objects ≡ true → length objects < length persons → All (IsWithin p.persons p.objects) p.arcs
     → length listed ≡ p.persons → length known ≡ p.objects → AreListed persons listed → AreListed objects known → list_all (λ a. not (get_or listed a.person false) || get_or known a.object false) p.arcs ≡ is_hall p persons objects
 told_by_flags p persons objects listed known below_persons below_objects fewer within size size2 flags flags2 =

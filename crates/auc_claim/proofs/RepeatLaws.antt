@@ -1,4 +1,4 @@
--- The first object that stands among earlier ones.
+-- The first object that occurs among earlier ones.
 use Rattle.std.proofs.Common.{◌≡◌, ℕ, zero, suc, ◌+◌, ◌<◌, ◌≤◌, None, Bool, true, false, ◌||◌, List, [], ◌∷◌, length, map, get_or, set, take, drop, reverse, refl, sym, ap, ◌∙◌, arith, eqb}
 use Rattle.std.specs.Prelude.{nat_eq}
 use Rattle.std.specs.Prelude.{if◌then◌else◌, Some}
@@ -14,7 +14,7 @@ use Rattle.auc_claim.specs.Claim.{repeated}
 abbrev pub objects_of : List Pick → List ℕ
 objects_of picks = map (λ c. c.object) picks
 
--- a flag for each object, whether it stands among the earlier ones
+-- a flag for each object: whether it occurs among the earlier ones
 abbrev pub HasSeen : List Bool → List ℕ → Type 0
 HasSeen seen earlier = (j : ℕ) → j < length seen → get_or seen j false ≡ list_any (nat_eq j) earlier
 

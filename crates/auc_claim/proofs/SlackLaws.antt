@@ -1,4 +1,4 @@
--- Slack, seen arc by arc: each arc beside the pick of its person.
+-- Epsilon-complementary slackness, arc by arc: each arc beside the pick of its person.
 use Rattle.std.proofs.Common.{◌≡◌, ℕ, zero, suc, ◌+◌, ◌<◌, Bool, true, not, ◌&&◌, List, [], ◌∷◌, length, get_or, take, All, None, refl, sym, ap, ◌∙◌, arith, eqb, inl, inr, pos}
 use Rattle.std.specs.Prelude.{ℤ, ◌+ℤ◌, int_le}
 use Rattle.std.specs.List.{position}
@@ -51,7 +51,7 @@ borne s prices picks i (a ∷ arcs) near =
       | inr other ↦ rw other rest
     ]
 
--- where each arc is near, each pick is slack-right
+-- if no arc is better by more than 1, each pick satisfies epsilon-complementary slackness
 pub near_is_right : (s : ℕ) (prices : List ℤ) (picks : List Pick) (arcs : List Arc) → All (IsNear s prices picks) arcs → position (λ c. not (is_slack_right s prices arcs c)) (chosen 0 picks) ≡ None
 near_is_right s prices picks arcs near =
     sym (no_place (λ c. not (is_slack_right s prices arcs c)) (chosen 0 picks) no_arc

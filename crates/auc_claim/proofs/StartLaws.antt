@@ -1,4 +1,4 @@
--- Prices that a run may start from.
+-- Warm starts: prices that a run may start from.
 use Rattle.std.proofs.Common.{◌≡◌, ℤ, List, None, All, T, not, subst, sym}
 use Rattle.std.specs.Int.Signed.{lt_z_no}
 use Rattle.auc_graph.specs.Price.{IsPrice}

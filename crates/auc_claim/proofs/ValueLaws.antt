@@ -76,7 +76,7 @@ slack_beside_is s prices c a x y person mine theirs =
     let same : eqb c.person a.person ≡ true = eq-eqb c.person a.person person in
     rw (same, mine, theirs) refl
 
--- what a test of two signed numbers says of them
+-- the test of two signed numbers as the code makes it
 pub same_bits : (a b : ℤ) → FitsSigned w128 a → FitsSigned w64 b → of_z w128 a ≡ of_z w128 (to_z w64 (of_z w64 b)) → a ≡ b
 same_bits a b f g e =
     sym (to_z-of_z w128 a f) ∙ ap (to_z w128) (e ∙ ap (of_z w128) (to_z-of_z w64 b g)) ∙ to_z-of_z w128 b (wide b g)

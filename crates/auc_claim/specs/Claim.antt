@@ -27,6 +27,7 @@ abbrev pub chosen : ℕ → List Pick → List Arc
 chosen k [] = []
 chosen k (p ∷ picks) = arc_of k p ∷ chosen (k + 1) picks
 
+-- two arcs of the same person, object and cost
 abbrev pub same_arc : Arc → Arc → Bool
 same_arc a b = (a.person == b.person) && (a.object == b.object) && int_eq a.cost b.cost
 
@@ -38,14 +39,16 @@ is_missing arcs c = list_all (λ a. not (same_arc c a)) arcs
 abbrev pub is_slack_beside : ℕ → List ℤ → Arc → Arc → Bool
 is_slack_beside s prices c a = not (c.person == a.person) || int_le (arc_value s prices c) (arc_value s prices a +ℤ pos 1)
 
+-- epsilon-complementary slackness at eps 1, as a test: no arc of the same person is better than c by more than 1
 abbrev pub is_slack_right : ℕ → List ℤ → List Arc → Arc → Bool
 is_slack_right s prices arcs c = list_all (is_slack_beside s prices c) arcs
 
--- the first object of the list that occurs before in it, or in `earlier`
+-- the first object of the list that occurs earlier in it, or in `earlier`
 abbrev pub repeated : List ℕ → List ℕ → Option ℕ
 repeated earlier [] = None
 repeated earlier (j ∷ js) = if list_any (nat_eq j) earlier then Some j else repeated (j ∷ earlier) js
 
+-- this fault if the flag is set, else none
 abbrev pub fault_if : Bool → CertRefused → Option CertRefused
 fault_if b fault = if b then Some fault else None
 

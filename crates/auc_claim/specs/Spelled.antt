@@ -44,6 +44,7 @@ names_version objects = if nat_lt (most_in First) (least_behind 0 objects) then 
 abbrev pub IsBelow : ℕ → ℕ → Type 0
 IsBelow end k = k < end
 
+-- a pick whose object is below this number, with a cost in range
 pub record IsPick (most : ℕ) (p : Pick) : Type 0 where
   pub object : p.object < most
   pub low : neg_ℤ (pos (10 ^ 9)) ≤ℤ p.cost
@@ -65,6 +66,7 @@ pub record AreNamed (persons objects : List ℕ) : Type 0 where
   pub persons_rise : Rises 0 most_persons persons
   pub objects_rise : Rises 0 most_objects objects
 
+-- the certificate has a text: its numbers are in range, and its lists have the sizes and the order of the format
 abbrev pub IsSpelled : CertParts → Type 0
 IsSpelled (Optimal cost choice prices) = FitsSigned w64 cost × IsChoice choice prices
 IsSpelled (Infeasible persons objects) = AreNamed persons objects

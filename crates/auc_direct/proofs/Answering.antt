@@ -1,4 +1,4 @@
--- What the last phase leaves is an answer.
+-- The result of the last phase is an answer.
 use Rattle.std.proofs.Common.{Bool, true, false, ℕ, ℤ, pos, ◌≡◌, ◌<◌, refl, arith, inl, inr, List, [], ◌∷◌, length, get_or, map, Contains, Option, Some, ap, sym, subst, ◌∙◌}
 use Rattle.std.specs.Prelude.{IfOk, Result, Ok, Err, ◌⊎◌}
 use Rattle.std.specs.List.{slice_get}
@@ -157,7 +157,7 @@ limited_from p t r bids start begun its same opened answer limited = record {
   limited = limited;
 }
 
--- the same of a run that somebody watches
+-- the same of a run under a watch
 pub limited_from_unless : (before after : Bool) (p : Problem) (t : Table) (r : FlatTable) (bids : ℕ) (start begun : List ℤ) → IsTableOf p t → AreSameRows t r → AreOpened r.objects (length r.rows) start begun → (answer : Answer) → IsLimitedUnless before after answer (IsLimited p bids (total begun) answer) → IsLimitedUnless before after answer (IsLimitedFrom p bids start answer)
 limited_from_unless before after p t r bids start begun its same opened answer (inl told) = inl told
 limited_from_unless before after p t r bids start begun its same opened answer (inr is) = inr (is.0, limited_from p t r bids start begun its same opened answer is.1)
@@ -176,7 +176,7 @@ length_zero : {X : Type 0} (xs : List X) → length xs ≡ 0 → xs ≡ []
 length_zero [] e = refl
 length_zero (x ∷ xs) e = absurd (omega (arith, e))
 
--- the arc of the problem for which one of a row stands
+-- the problem's arc that an arc of a row stands for
 arc_for : (i : ℕ) (arcs : List Arc) (a : RowArc) → Contains (row i arcs) a → slice_get arcs a.arc ≡ Some (record { cost = a.cost; person = i; object = a.object })
 unfolding row Found
 arc_for i arcs a c =
@@ -194,7 +194,7 @@ listed_at p i s (k, l, e) =
     let is : short a ≡ s = sym (get_or-map short (row i p.arcs) k none s lt) ∙ e in
     subst (λ (x : ShortArc). Contains p.arcs (arc_by i x)) is (contains_at p.arcs a.arc (arc_by i (short a)) (arc_for i p.arcs a (Contains-get_or (row i p.arcs) k none lt)))
 
--- where nobody is stuck each row of the problem has an arc
+-- if no person is stuck, each row of the problem has an arc
 pub rows_of_nobody_stuck : (p : Problem) (t : Table) → IsTableOf p t → NobodyStuck t → EachHasRow p
 rows_of_nobody_stuck p t its some i lt none =
     let l : i < length t.rows = (let f = length-rows p t its in omega (arith, lt, f)) in
@@ -228,9 +228,9 @@ module _ (p : Problem) (r : FlatTable) (rows : AreRowsOf p r) where
       let lt : i < p.persons = (let l = owner_below r eps prices holders owns sound stands i has in let e = persons_are in omega (arith, l, e)) in
       listed_at p i (own_at owns i) (subst (λ (xs : List ShortArc). Contains xs (own_at owns i)) (row_at i lt) (stands.slack i has).listed)
 
--- ---- where somebody watches
+-- ---- under a watch
 
--- an answer that tells of a stop, where who watched has said no; and else one that a limit explains
+-- the answer of a stop, if the watch has said no, and otherwise one that a limit explains
 pub limit_or_told : (before after : Bool) (p : Problem) (r : FlatTable) (bids : ℕ) (begun : List ℤ) (ending : Ending) (prices : List ℤ) (answer : Answer) → IsToldOr before after ending ((first : State) × (first.prices ≡ begun) × IsStopped r bids first ending prices) → IsTold p r ending prices answer → IsLimitedUnless before after answer (IsLimited p bids (total begun) answer)
 limit_or_told before after p r bids begun ending prices answer (inl stop) told = inl (stop.0, told.told stop.1)
 limit_or_told before after p r bids begun ending prices answer (inr is) told = inr (is.0, subst (λ (zs : List ℤ). IsLimited p bids (total zs) answer) is.1.1 (told.limited bids is.1.0 is.1.2))
@@ -239,11 +239,11 @@ not_told : (P : Answer → Type 0) (a : Answer) → IsLimitedUnless false false 
 not_told P a (inl told) = absurd (false≢true told.0)
 not_told P a (inr is) = is.1
 
--- who never says no has said no nowhere
+-- a watch that never says no has stopped nothing
 pub never_told : {E : Type 0} (P : Answer → Type 0) (r : Result Answer E) → IfOk r (λ a. IsLimitedUnless false false a (P a)) → IfOk r P
 never_told P r h = of_answers (λ a. IsLimitedUnless false false a (P a)) P r (not_told P) h
 
--- ---- who watches was asked
+-- ---- the watch was asked
 
 pub is_asked : (asked : Bool) (p : Problem) (r : FlatTable) → AreRowsOf p r → (asked ≡ true) ⊎ IsFullTable r → (answer : Answer) → IsAsked asked p answer
 is_asked true p r rows h answer = tt
@@ -266,7 +266,7 @@ first_claim p bids begun (CertParts.Optimal cost choice prices) first (inr is) =
 first_claim p bids begun (CertParts.Infeasible persons objects) first run = tt
 first_claim p bids begun (CertParts.Bracket reason lower cost choice prices) first run = (begun, first, run)
 
--- what comes of a run that began with such prices
+-- the outcome of a run that began with such prices
 pub of_first : (p : Problem) (bids : ℕ) (begun : List ℤ) (answer : Answer) → AreFirst p begun → IsOfPhases p bids begun answer → IsOfFirstPhases p bids answer
 of_first p bids begun (Answer.Optimal cert) first run = first_claim p bids begun cert first run
 of_first p bids begun (Answer.Infeasible cert) first run = tt

@@ -1,5 +1,5 @@
--- The arcs by which persons hold are arcs of the problem, and slack-right; where each person has one they are an
--- assignment.
+-- The arcs by which persons hold are arcs of the problem, and satisfy epsilon-complementary slackness. If each person
+-- has one, they are an assignment.
 use Rattle.std.proofs.Common.{ℕ, ℤ, pos, zero, suc, ◌+◌, ◌<◌, ◌≤◌, ◌≡◌, ◌≢◌, refl, arith, false, List, [], ◌∷◌, length, get_or, map, Option, Some, None, Contains, inl, inr, ap, sym, subst, ◌∙◌}
 use Rattle.std.specs.Prelude.{nat_eq, All, ◌⊎◌, ◌+ℤ◌, ◌*ℤ◌, ◌≤ℤ◌}
 use Rattle.std.specs.List.{slice_get, range_with_len, IsDistinct, AllByRecursion}
@@ -45,7 +45,7 @@ module _ (p : Problem) (t : Table) (r : FlatTable) (eps : ℤ) (prices : List �
   has_below : (i : ℕ) → (own_at owns i).object ≢ NOBODY → i < p.persons
   has_below i some = let l = owner_below r eps prices holders owns sound stands i some in let e = persons_are in omega (arith, l, e)
 
-  -- he holds his object by the arc that stands there
+  -- the person holds the object by the arc at this place
   record IsOf (i : ℕ) (h : Held) : Type 0 where
     holds : held_at held (own_at owns i).object ≡ Some h
     who : h.person ≡ i
@@ -60,7 +60,7 @@ module _ (p : Problem) (t : Table) (r : FlatTable) (eps : ℤ) (prices : List �
   holder_of : (i : ℕ) → (own_at owns i).object ≢ NOBODY → (h : Held) × IsOf i h
   holder_of i some = held_by i some (held_at held (own_at owns i).object) refl (are (own_at owns i).object)
 
-  -- who holds an object has it
+  -- the holder of an object has it
   has_of : (j : ℕ) (h : Held) → held_at held j ≡ Some h → ((own_at owns h.person).object ≡ j) × ((own_at owns h.person).object ≢ NOBODY)
   has_of j h e =
       let is : IsHeld p holders owns j (Some h) = subst (IsHeld p holders owns j) e (are j) in
@@ -134,7 +134,7 @@ module _ (p : Problem) (t : Table) (r : FlatTable) (eps : ℤ) (prices : List �
     chosen_object : (arc : Arc) → IsChosen arc → arc.object ≡ (own_at owns arc.person).object
     chosen_object arc c = ap (λ (x : Arc). x.object) c.is
 
-    -- who has the object of an arc by which a person holds
+    -- the holder of the object of an arc by which a person holds
     holder_is : (arc : Arc) → IsChosen arc → holder_at holders arc.object ≡ arc.person
     holder_is arc c = ap (holder_at holders) (chosen_object arc c) ∙ stands.holds arc.person (has arc.person c.below)
 

@@ -1,4 +1,4 @@
--- What a run has come to is told of its answer.
+-- The ending of a run, by its answer.
 use Rattle.std.proofs.Common.{Bool, Err, Ok, Result, inl, inr, ℕ, ℤ, arith}
 use Rattle.std.specs.Prelude.{IfErr, ◌≤ℤ◌}
 use Rattle.std.proofs.lemmas.Int.{ints}
@@ -12,14 +12,14 @@ limited_by p bids begun after (CertParts.Optimal cost choice prices) le h = tt
 limited_by p bids begun after (CertParts.Infeasible persons objects) le h = tt
 limited_by p bids begun after (CertParts.Bracket reason lower cost choice prices) le (t, r, first, of, same, up, limit) = (t, r, first, of, same, omega (arith, ints, le, up), limit)
 
--- what has risen so far above a sum has risen as far above a lesser one
+-- a sum that has risen this far above another has risen as far above a smaller one
 pub limited_earlier : (p : Problem) (bids : ℕ) (begun after : ℤ) (answer : Answer) → begun ≤ℤ after → IsLimited p bids after answer → IsLimited p bids begun answer
 limited_earlier p bids begun after (Answer.Optimal cert) le h = tt
 limited_earlier p bids begun after (Answer.Infeasible cert) le h = tt
 limited_earlier p bids begun after (Answer.Bracket cert) le h = limited_by p bids begun after cert le h
 limited_earlier p bids begun after (Answer.Broken guard) le h = tt
 
--- the same of a run that somebody watches
+-- the same of a run under a watch
 pub limited_earlier_unless : (before after : Bool) (p : Problem) (bids : ℕ) (begun later : ℤ) (answer : Answer) → begun ≤ℤ later → IsLimitedUnless before after answer (IsLimited p bids later answer) → IsLimitedUnless before after answer (IsLimited p bids begun answer)
 limited_earlier_unless before after p bids begun later answer le (inl told) = inl told
 limited_earlier_unless before after p bids begun later answer le (inr is) = inr (is.0, limited_earlier p bids begun later answer le is.1)

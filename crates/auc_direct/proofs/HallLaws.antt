@@ -1,4 +1,4 @@
--- Persons who together know too few objects by their rows do by the problem.
+-- A Hall set by the rows is one of the problem.
 use Rattle.std.proofs.Common.{◌≡◌, ℕ, ◌<◌, List, length, get_or, map, sym, ap, subst, ◌∙◌, arith, Contains}
 use Rattle.std.proofs.lemmas.List.{get_or-map, length-map}
 use Rattle.std.proofs.lemmas.List.Elements.{Contains-get_or}
@@ -15,7 +15,7 @@ use Rattle.auc_direct.proofs.Choices.{in_map}
 
 -- ---- of the problem
 
--- an arc of a row stands for one with its place
+-- an arc of a row stands for one with its place in the list
 long : (row : List RowArc) (s : ShortArc) → Contains (map short row) s → (a : RowArc) × Contains row a × (a.object ≡ s.object)
 long row s (n, lt, e) =
     let none : RowArc = record { object = 0; cost = s.cost; arc = 0 } in

@@ -17,7 +17,7 @@ module _ (p : Problem) (holders : List ℕ) (owns : List ShortArc) where
   abbrev IsOwn : Arc → ℕ → Type 0
   IsOwn a q = a ≡ arc_by q (own_at owns q)
 
-  -- the object's holder holds it by none of the first n arcs, or he was found
+  -- the holder holds the object by none of the first n arcs, or has been found
   abbrev pub IsMet : ℕ → ℕ → Option Held → Type 0
   IsMet n j None = (m : ℕ) → m < n → holder_at holders j ≢ NOBODY → IsOwn (get_or p.arcs m none) (holder_at holders j) → ⊥
   IsMet n j (Some h) = IsHeld p holders owns j (Some h)
@@ -33,7 +33,7 @@ module _ (p : Problem) (holders : List ℕ) (owns : List ShortArc) where
   ]
   other n j (Some h) differs met = met
 
-  -- nobody holds by it
+  -- no person holds by this arc
   pub met_other : (n : ℕ) (held : List (Option Held)) → ((q : ℕ) → IsOwn (get_or p.arcs n none) q → ⊥) → AreMet n held → AreMet (n + 1) held
   met_other n held differs met j = other n j (held_at held j) (λ some e. differs (holder_at holders j) e) (met j)
 
@@ -74,7 +74,7 @@ module _ (p : Problem) (holders : List ℕ) (owns : List ShortArc) where
 
   -- ---- person by person
 
-  -- the object's holder, if any, comes behind the first n persons; or he was found
+  -- the holder of the object, if any, comes after the first n persons, or has been found
   abbrev pub IsSeen : ℕ → ℕ → Option Held → Type 0
   IsSeen n j None = holder_at holders j ≢ NOBODY → n ≤ holder_at holders j
   IsSeen n j (Some h) = IsHeld p holders owns j (Some h)
@@ -82,7 +82,7 @@ module _ (p : Problem) (holders : List ℕ) (owns : List ShortArc) where
   abbrev pub AreSeen : ℕ → List (Option Held) → Type 0
   AreSeen n held = (j : ℕ) → IsSeen n j (held_at held j)
 
-  -- one person more, who holds no such object
+  -- one more person, who doesn't hold the object
   seen_later : (n j : ℕ) (o : Option Held) → (holder_at holders j ≢ NOBODY → holder_at holders j ≡ n → ⊥) → IsSeen n j o → IsSeen (n + 1) j o
   seen_later n j None other seen = λ some. (
       let le = seen some in

@@ -44,7 +44,7 @@ plays_refined bids a b is = record { table = is.table; phases = by is.after; ris
     by (inl same) = subst (ArePhases a.table bids (state_at a)) (sym same) first
     by (inr opened) = opens is.refined (state_at b) first opened
 
--- after nobody held anything any more
+-- after an opening, in which no person holds an object
 pub plays_begun : (eps : ℤ) (bids : ℕ) (a b c : Position) → IsBegun eps a b → IsTried bids b c → Plays bids a c
 plays_begun eps bids a b c begun is =
     let phase : IsPhase a.table bids (state_at b) (state_at c) = rw begun.table at is.phase in
@@ -96,7 +96,7 @@ played_at bids before after ending a b is = record {
   stopped = watched_stopped before after a.table bids (state_at a) ending b.prices b.owns is.ended;
 }
 
--- phases before it
+-- with phases before
 pub over_before : (bids : ℕ) (before between after : Bool) (ending : Ending) (a b c : Position) → between ≡ before → Plays bids a b → IsRunOut bids between after ending b c → IsRunOut bids before after ending a c
 over_before bids before between after ending a b c same plays is =
     let stopped : IsToldOr between after ending (IsStopped a.table bids (state_at b) ending c.prices) = rw plays.table at is.stopped in
@@ -108,7 +108,7 @@ over_before bids before between after ending a b c same plays is =
       phases = phases_on a.table bids (state_at a) (state_at b) (state_at c) plays.phases phases;
     }
 
--- what is handed on has the prices of the last market
+-- the market handed on has the prices of the last one
 handed_prices : (ending : Ending) (b : Position) (prices : List ℤ) (holders : List ℕ) (owns : List ShortArc) → AreHandedOn ending b prices holders owns → prices ≡ b.prices
 handed_prices Ending.Sold b prices holders owns h = h.0
 handed_prices (Ending.Stopped reason) b prices holders owns h = h.0
@@ -126,7 +126,7 @@ told_from : (before after : Bool) (ending : Ending) (r : FlatTable) (bids : ℕ)
 told_from before after ending r bids s prices (inl told) = inl told
 told_from before after ending r bids s prices (inr is) = inr (is.0, (s, refl, is.1))
 
--- what a run comes to that began with these prices
+-- the outcome of a run that began with these prices
 pub outcome_of : (r : FlatTable) (bids : ℕ) (before after : Bool) (ending : Ending) (a b : Position) (prices : List ℤ) (holders : List ℕ) (owns : List ShortArc) → a.table ≡ r → IsRunOut bids before after ending a b → AreHandedOn ending b prices holders owns → IsOutcome r bids a.prices before after ending prices holders owns
 outcome_of r bids before after ending a b prices holders owns table is h =
     let same = handed_prices ending b prices holders owns h in

@@ -45,6 +45,7 @@ pub record IsLimitedFrom (p : Problem) (bids : ℕ) (start : List ℤ) (answer :
   pub opened : AreOpened p.objects p.persons start begun
   pub limited : IsLimited p bids (total begun) answer
 
+-- the certificate is a bracket with this reason
 abbrev pub HasReason : Reason → CertParts → Type 0
 HasReason reason (CertParts.Optimal cost choice prices) = ⊥
 HasReason reason (CertParts.Infeasible persons objects) = ⊥

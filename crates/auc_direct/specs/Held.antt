@@ -33,6 +33,7 @@ IsHeld p holders owns j (Some h) =
     (holder_at holders j ≡ h.person) × (h.person ≢ NOBODY)
     × (slice_get p.arcs h.arc ≡ Some (arc_by h.person (own_at owns h.person)))
 
+-- the same for every object
 abbrev pub AreHeld : Problem → List ℕ → List ShortArc → List (Option Held) → Type 0
 AreHeld p holders owns held = (j : ℕ) → IsHeld p holders owns j (held_at held j)
 

@@ -1,4 +1,4 @@
--- A long unfinished token and a short one that read alike, whatever stands after them.
+-- A long unfinished token and a short one that read alike, whatever bytes follow.
 use Rattle.std.proofs.Common.{◌≡◌, ℕ, zero, suc, ◌+◌, ◌*◌, ◌<◌, ◌≤◌, ◌^◌, min, Bool, true, false, not, length, take, drop, ◌⊎◌, List, [], ◌∷◌, ◌++◌, Option, Some, None, refl, sym, ap, ◌∙◌, arith, inl, inr, append_assoc, if◌then◌else◌}
 use Rattle.std.specs.Prelude.{◌&&◌, ◌==◌}
 use Rattle.std.specs.Char.{is_ascii_digit, digit_value}
@@ -109,7 +109,7 @@ same_digits ds es r digits some digits_2 some_2 h =
       | inr broken ↦ ap capped (none_if (ds ++ r) (test_behind ds r digits some ∙ broken)) ∙ sym (ap capped (none_if (es ++ r) (test_behind es r digits_2 some_2 ∙ broken)))
     ]
 
--- zeros after the point are nothing
+-- zeros after the point change nothing
 point_zeros : (ds : List ℕ) (b : ℕ) (zeros more : List ℕ) → list_all is_ascii_digit ds ≡ true → is_nonempty ds ≡ true → is_point b ≡ true → list_all is_zero zeros ≡ true → capped (magnitude (ds ++ b ∷ (zeros ++ more))) ≡ capped (magnitude (ds ++ 46 ∷ more))
 point_zeros ds b zeros more digits some point h =
     let here : position_or_len is_point (b ∷ (zeros ++ more)) ≡ 0 = rw point refl in
@@ -135,7 +135,7 @@ starts_bad c more no_digit =
       | inr other ↦ broken_digits [] c more refl no_digit other
     ]
 
--- after digits stands what is neither a point with zeros nor more of one
+-- the digits are followed by something else than a point with zeros, or by more after those
 goes_bad : (ds rest more : List ℕ) → list_all is_ascii_digit ds ≡ true → ((c : ℕ) (others : List ℕ) → rest ≡ c ∷ others → is_ascii_digit c ≡ false) → fraction_len rest < length rest → magnitude (ds ++ (rest ++ more)) ≡ None
 goes_bad ds [] more digits stops lt = absurd (omega arith)
 goes_bad ds (b ∷ rest) more digits stops lt =
@@ -190,7 +190,7 @@ unfolding split_sign
 sign_spelled true t more = refl
 sign_spelled false t more = refl
 
--- what stands after the digits: nothing, or a point and zeros
+-- the bytes after the digits: none, or a point and zeros
 behind_digits : (ds es rest more : List ℕ) (point : Bool) → list_all is_ascii_digit ds ≡ true → is_nonempty ds ≡ true → list_all is_ascii_digit es ≡ true → is_nonempty es ≡ true → min (digits_value 10 ds) (10 ^ 18 + 1) ≡ min (digits_value 10 es) (10 ^ 18 + 1)
     → length rest ≤ fraction_len rest → (point ≡ true → 0 < fraction_len rest) → (point ≡ false → fraction_len rest ≡ 0)
     → capped (magnitude (ds ++ (rest ++ more))) ≡ capped (magnitude (es ++ (point_tail point ++ more)))

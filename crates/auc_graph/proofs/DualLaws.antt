@@ -1,4 +1,5 @@
--- Weak duality: no assignment costs less than prices say, and one that is slack-right at eps costs little more.
+-- Weak duality: no assignment costs less than the dual bound, and one that satisfies epsilon-complementary slackness
+-- costs little more.
 use Rattle.std.proofs.Common.{◌≡◌, ℕ, ◌<◌, List, [], ◌∷◌, length, map, get_or, refl, sym, ap, subst, ◌∙◌, arith, inl, inr}
 use Rattle.std.specs.Prelude.{ℤ, pos, ◌+ℤ◌, ◌-ℤ◌, ◌*ℤ◌, ◌≤ℤ◌, All, Contains}
 use Rattle.std.specs.List.{AllByRecursion, range_with_len}
@@ -66,7 +67,8 @@ module _ (p : Problem) (prices : List ℤ) (within : All (IsWithin p.persons p.o
       let some = some_prices prices (map object_of choice) given.objects (objects_in choice given) above in
       omega (arith, ints, sum, persons_in choice given, split_value (scale_of p) prices choice, some)
 
-  -- and a choice that is slack-right at eps and leaves no price is near
+  -- if a choice satisfies epsilon-complementary slackness and unassigned objects have price 0, its cost is near the
+  -- bound
   pub slack_right_is_near : (eps : ℤ) (choice : List Arc) → IsAssignment p choice → All (IsSlackRight eps (scale_of p) prices p.arcs) choice → total (prices_at prices (map object_of choice)) ≡ total prices
       → (pos (scale_of p) *ℤ total_cost choice) ≤ℤ (dual p prices +ℤ (pos p.persons *ℤ eps))
   slack_right_is_near eps choice given slack all =
@@ -74,7 +76,7 @@ module _ (p : Problem) (prices : List ℤ) (within : All (IsWithin p.persons p.o
       let same = ap (λ (n : ℕ). pos n *ℤ eps) (as_many p choice given) in
       omega (arith, ints, sum, persons_in choice given, split_value (scale_of p) prices choice, all, same)
 
--- a choice that is slack-right at 1, outside of which no object has a price, costs least
+-- a choice that satisfies epsilon-complementary slackness at eps 1 costs least, if each unassigned object has price 0
 pub slack_right_is_least : (p : Problem) (prices : List ℤ) (choice : List Arc) → All (IsWithin p.persons p.objects) p.arcs → length prices ≡ p.objects → AreNotNegative prices → IsAssignment p choice → All (IsSlackRight (pos 1) (scale_of p) prices p.arcs) choice
     → IsNoPriceLeft prices choice → IsLeast p choice
 slack_right_is_least p prices choice within len above given slack left =
@@ -88,7 +90,7 @@ slack_right_is_least p prices choice within len above given slack left =
           scale-cancel p.persons (total_cost choice) (total_cost other) (omega (arith, ints, near, below, scale-one p.persons));
     }
 
--- where there are as many objects as persons, every object is taken
+-- with as many objects as persons, every object is assigned
 pub none_left_over : (p : Problem) (prices : List ℤ) (choice : List Arc) → All (IsWithin p.persons p.objects) p.arcs → p.objects ≡ p.persons → length prices ≡ p.objects → IsAssignment p choice → IsNoPriceLeft prices choice
 none_left_over p prices choice within square len given j free =
     elim (cases_lt j (length prices)) [

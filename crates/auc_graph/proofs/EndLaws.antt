@@ -1,5 +1,5 @@
--- What is answered at the end of a text; no text reads as too many reads, and what is read has as many objects as are
--- wanted.
+-- The answer at the end of a text: it is never too many reads, and a problem that is read has the wanted number of
+-- objects.
 use Rattle.std.proofs.Common.{◌≡◌, ℕ, ◌+◌, ◌*◌, ◌-◌, ◌++◌, inl, inr, List, [], ◌∷◌, length, Result, Ok, Err, refl, sym, ap, subst, ◌∙◌, Option}
 use Rattle.std.specs.Prelude.{◌≢◌, ℤ, pos, neg_ℤ, unsigned_abs, nat_le, nat_lt, ◌==◌, ⊤}
 use Rattle.std.specs.Io.KnownBytes.{IsAtEnd}
@@ -125,7 +125,7 @@ is_read limits left text (Err TooFewObjects) end h = (end, h (λ e. absurd cc))
 
 -- ---- how many objects what is read has
 
--- what a stage knows of the number of objects
+-- the number of objects in a stage agrees with the number wanted
 abbrev IsFor : ℕ → Stage → Type 0
 IsFor wanted (AtCount own) = own ≡ wanted
 IsFor wanted (AtPerson persons objects) = objects_for wanted persons ≡ Ok objects
@@ -158,7 +158,7 @@ unfolding step
 step_for limit wanted (Ok (stage, arcs)) x h = step_at_for limit wanted stage arcs x h
 step_for limit wanted (Err e) x h = tt
 
--- what is read has the objects that are wanted
+-- a problem that is read has the wanted number of objects
 abbrev HasObjects : ℕ → Result Problem ReadError → Type 0
 HasObjects wanted (Ok p) = objects_for wanted p.persons ≡ Ok p.objects
 HasObjects wanted (Err e) = ⊤

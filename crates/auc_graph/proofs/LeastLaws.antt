@@ -1,4 +1,4 @@
--- The least value of a person's arcs, and the table of these values as the arcs are gone through.
+-- The least value of a person's arcs, and the table of these values after a number of arcs.
 use Rattle.std.proofs.Common.{◌≡◌, ◌≢◌, ℕ, zero, suc, ◌+◌, ◌<◌, Bool, true, false, cond, eq-eqb, List, [], ◌∷◌, ◌++◌, length, map, get_or, take, set, replicate, refl, sym, ap, subst, ◌∙◌, arith, inl, inr}
 use Rattle.std.specs.Prelude.{ℤ, pos, ◌≤ℤ◌, ◌==◌, filter, All, Contains}
 use Rattle.std.specs.List.{range_with_len}
@@ -63,7 +63,7 @@ module _ (worth : Arc → ℤ) (i : ℕ) where
         | inr f ↦ rw f rest
       ]
 
-  -- of one who has an arc
+  -- of a person who has an arc
   pub least_above : (m : ℤ) (arcs : List Arc) (c : Arc) (k : ℕ) → k < length arcs → get_or arcs k c ≡ c → c.person ≡ i → All (λ a. a.person ≡ i → m ≤ℤ worth a) arcs → m ≤ℤ least_worth worth arcs i
   least_above m [] c k lt e his all = absurd (omega arith)
   least_above m (x ∷ xs) c k lt e his all =
@@ -123,7 +123,7 @@ other_same : (worth : Arc → ℤ) (top : ℤ) (arcs : List Arc) (a : Arc) (i : 
 other_same worth top arcs a i ne =
     ap (lowest top) (worths_push worth arcs a i ∙ ap (λ b. worths worth arcs i ++ cond b (worth a ∷ []) []) (ne_eqb a.person i ne) ∙ append-nil (worths worth arcs i))
 
--- a table of n numbers: of each person the least of `top` and of what his arcs are worth
+-- a table of n numbers: for each person the least of `top` and the values of the person's arcs
 pub record AreLeast (n : ℕ) (worth : Arc → ℤ) (top : ℤ) (arcs : List Arc) (table : List ℤ) : Type 0 where
   pub len : length table ≡ n
   pub each : (i : ℕ) → i < n → get_or table i (pos 0) ≡ lowest_at worth top arcs i
@@ -153,7 +153,7 @@ least_more n worth top arcs k d table was now h lt within read made = record {
         ∙ made ∙ ap (λ (z : ℤ). int_min z (worth (get_or arcs k d))) before
         ∙ sym (ap (λ xs. lowest_at worth top xs (get_or arcs k d).person) (take_more arcs k d lt) ∙ his_more worth top (take k arcs) (get_or arcs k d))
 
--- ---- of one who has an arc
+-- ---- of a person who has an arc
 
 some_his : (worth : Arc → ℤ) (i : ℕ) (arcs : List Arc) (a : Arc) (k : ℕ) → k < length arcs → get_or arcs k a ≡ a → a.person ≡ i → worths worth arcs i ≢ []
 some_his worth i [] a k lt e his none = absurd (omega arith)

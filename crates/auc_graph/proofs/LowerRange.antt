@@ -1,4 +1,4 @@
--- How great the least cost is that a dual bound allows.
+-- The range of the least cost that a dual bound allows.
 use Rattle.std.proofs.Common.{◌≡◌, ℕ, ◌^◌, ◌≤◌, List, [], ◌∷◌, length, map, get_or, refl, ap, subst, arith}
 use Rattle.std.specs.Prelude.{ℤ, pos, neg_ℤ, ◌+ℤ◌, ◌-ℤ◌, ◌*ℤ◌, ◌≤ℤ◌, All, Contains, FitsSigned}
 use Rattle.std.specs.Int.{w64}
@@ -41,7 +41,7 @@ module _ (p : Problem) (prices : List ℤ) (choice : List Arc) (lower : ℤ) (wi
       let costs = costs_below MOST_COST p.arcs choice (λ k d lt. (within k d lt).high) given.arcs in
       omega (arith, ints, least, costs, many MOST_COST)
 
-  -- at prices that aren't negative no arc is worth less than its scaled cost
+  -- at prices that aren't negative no arc's value is below its scaled cost
   worth_above : All (λ (a : Arc). (pos (scale_of p) *ℤ neg_ℤ MOST_COST) ≤ℤ arc_value (scale_of p) prices a) p.arcs
   worth_above k d lt =
       let arc = get_or p.arcs k d in
@@ -59,7 +59,7 @@ module _ (p : Problem) (prices : List ℤ) (choice : List Arc) (lower : ℤ) (wi
       let same = many (pos (scale_of p) *ℤ neg_ℤ MOST_COST) in
       scale-cancel p.persons (least -ℤ top) lower (omega (arith, ints, sum, persons, same, turned, few, both, parts, is.reaches))
 
--- where no more objects than persons have a price it has 64 bits
+-- if at most as many objects as persons have a price, the bound fits 64 bits
 pub lower_fits : (p : Problem) (prices : List ℤ) (choice : List Arc) (lower : ℤ) → p.persons ≤ MOST_PERSONS → All (IsWithin p.persons p.objects) p.arcs → length prices ≡ p.objects → All IsPrice prices → AreFewPriced p prices → IsAssignment p choice
     → IsLower (scale_of p) (dual p prices) lower → FitsSigned w64 lower
 lower_fits p prices choice lower most within len fair priced given is =

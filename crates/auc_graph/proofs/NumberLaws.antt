@@ -22,7 +22,7 @@ use Rattle.auc_graph.proofs.TokenLaws.{no_token, next_token, prefix_len_is}
 pub value_of_digit : (c : ℕ) → is_ascii_digit c ≡ true → (digit_value c ≡ c - 48) × (48 ≤ c)
 value_of_digit c h = (grind (arith, nat_tests), grind (arith, nat_tests))
 
--- those up to i are digits, and so is the one at i
+-- the bytes before i are digits, and so is the one at i
 pub all_and_next : (bytes : List ℕ) (i : ℕ) → ((k : ℕ) → k < i → is_ascii_digit (get_or bytes k 0) ≡ true) → is_ascii_digit (get_or bytes i 0) ≡ true → (k : ℕ) → k < i + 1 → is_ascii_digit (get_or bytes k 0) ≡ true
 all_and_next bytes i before here k lt =
     elim (cases_lt k i) [
@@ -120,7 +120,7 @@ sign_text (b ∷ bytes) rest negative n is =
           ap (λ (m : ℕ). split_sign (take m (b ∷ bytes))) count ∙ unsigned_text b bytes n unsigned.1 ∙ sym (ap (λ x. (x.0, take n x.1)) (is ∙ unsigned.0))
     ]
 
--- what stands after the sign
+-- the bytes after the sign
 pub sign_drop : (bytes rest : List ℕ) (negative : Bool) → (negative, rest) ≡ split_sign bytes → rest ≡ drop (length bytes - length rest) bytes
 unfolding split_sign
 sign_drop [] rest negative is =

@@ -199,7 +199,7 @@ tail_of_front xs len kept le =
     let e : length (take len xs) ≡ len = grind (arith, common_steps) in
     ap (λ (m : ℕ). drop (m - kept) (take len xs)) e ∙ cut_front (len - kept) len xs
 
--- what stands there, and after it what was read
+-- the bytes at the front, followed by those that were read
 pub front_and_more : (xs ys : List ℕ) (kept n k : ℕ) → kept ≤ length xs → n ≤ length ys → take (kept + n) (put_mid kept k xs ys) ≡ take kept xs ++ take n ys
 front_and_more xs ys kept n k le few =
     let len : length (take kept xs) ≡ kept = grind (arith, common_steps) in

@@ -23,7 +23,7 @@ no_separators (b ∷ bytes) h =
       | inr fails ↦ let e : prefix_len is_separator (b ∷ bytes) ≡ 0 = rw fails refl in sym e
     ]
 
--- what is told of the front is told of the whole text
+-- what holds of the token at the front of a prefix holds of the whole text
 pub whole_front : (n : ℕ) (bytes front : List ℕ) (value len : ℕ) → front ≡ take n bytes → len < length front → IsPlainToken front value len → IsPlainToken bytes value len
 whole_front n bytes front value len is lt h =
     let all : front ++ drop n bytes ≡ bytes = ap (λ (t : List ℕ). t ++ drop n bytes) is ∙ take-append-drop n bytes in

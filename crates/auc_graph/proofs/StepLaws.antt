@@ -17,7 +17,7 @@ use Rattle.auc_graph.specs.Reading.{◌>>=◌, within, is_between, index, room, 
 
 -- ---- one number more
 
--- a fault stays the first one
+-- the first fault stays
 pub fault_stays : (limit : ℕ) (e : ReadError) (xs : List Number) → reading_on limit (Err e) xs ≡ Err e
 unfolding reading_on step finish
 fault_stays limit e [] = refl

@@ -9,7 +9,7 @@ use Rattle.std.proofs.lemmas.List.Sums.{prefix_len-le-length, prefix_len_passes,
 use Rattle.std.specs.Prelude.{slice_range}
 use Rattle.auc_graph.specs.Tokens.{is_nonempty, is_separator, tokens, IsFirstToken}
 
--- what stands between elements that pass, but for nothing
+-- the runs between elements that pass, without the empty ones
 abbrev pub parts : (ℕ → Bool) → List ℕ → List (List ℕ)
 parts p xs = filter is_nonempty (slice_split p xs)
 
@@ -61,7 +61,7 @@ at_first : (p : ℕ → Bool) (xs : List ℕ) → p (get_or xs 0 0) ≡ false �
 at_first p [] fails h = absurd (omega arith)
 at_first p (x ∷ xs) fails h = rw fails (omega arith)
 
--- how many there are in front that pass
+-- the number of elements at the front that pass
 pub prefix_len_is : (p : ℕ → Bool) (xs : List ℕ) (i : ℕ) → i ≤ length xs → ((k : ℕ) → k < i → p (get_or xs k 0) ≡ true) → (i < length xs → p (get_or xs i 0) ≡ false) → prefix_len p xs ≡ i
 prefix_len_is p [] i le pass stop = omega arith
 prefix_len_is p (x ∷ xs) zero le pass stop = rw (stop (omega arith)) refl
@@ -69,7 +69,7 @@ prefix_len_is p (x ∷ xs) (suc i) le pass stop =
     let rest : prefix_len p xs ≡ i = prefix_len_is p xs i (omega arith) (λ k lt. pass (suc k) (omega arith)) (λ lt. stop (omega arith)) in
     rw (pass 0 (omega arith)) (omega arith)
 
--- The token at the front, by how many separators stand there and how long the token after them is.
+-- The token at the front, by the number of separators before it and its length.
 pub no_token : (text : List ℕ) → length text ≤ prefix_len is_separator text → tokens text ≡ []
 unfolding tokens
 no_token text h = sym (skip is_separator text) ∙ ap (parts is_separator) (drop_all _ text h)

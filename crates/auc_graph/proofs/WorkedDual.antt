@@ -17,7 +17,7 @@ after_one_bid = refl
 after_two_bids : dual two_persons (pos 7 ∷ pos 0 ∷ []) ≡ pos 8
 after_two_bids = refl
 
--- with one object more, which nobody takes, its price is lost
+-- with one more object, which no person takes, its price is lost
 abbrev one_object_more : Problem
 one_object_more = record { persons = 2; objects = 3; arcs = two_persons.arcs }
 

@@ -27,7 +27,7 @@ second_of_two : row ben two_persons ≡ record { cost = pos 1; object = 0; arc =
 unfolding row
 second_of_two = refl
 
--- a pair that is listed twice stands twice, and arcs of others between leave the places as they are
+-- a pair that is listed twice is in the row twice, and arcs of other persons between leave the places as they are
 listed_twice : row ben (arc_of 1 0 (pos 4) ∷ arc_of 0 0 (pos 9) ∷ arc_of 1 0 (pos 2) ∷ []) ≡ record { cost = pos 4; object = 0; arc = 0 } ∷ record { cost = pos 2; object = 0; arc = 2 } ∷ []
 unfolding row
 listed_twice = refl

@@ -1,4 +1,4 @@
--- What some small texts read as, computed by the definitions.
+-- The results of reading some small texts, computed by the definitions.
 use Rattle.std.proofs.Common.{◌≡◌, ℕ, List, [], ◌∷◌, ◌++◌, refl}
 use Rattle.std.specs.Prelude.{codes, pos, neg_ℤ, Ok, Err, Result}
 use Rattle.auc_graph.specs.declared.number.Number.TheVariants.{Bad, Value, Huge}

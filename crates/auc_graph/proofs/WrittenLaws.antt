@@ -1,4 +1,4 @@
--- Eight bytes as a word, whose lowest bytes tell the first ones.
+-- Eight bytes as a word, whose lowest bytes fix the first ones.
 use Rattle.std.proofs.Common.{◌≡◌, ℕ, zero, suc, ◌+◌, ◌-◌, ◌*◌, ◌/◌, ◌%◌, ◌<◌, ◌≤◌, ◌^◌, true, false, length, get_or, take, List, refl, sym, ap, ◌∙◌, arith}
 use Rattle.std.specs.Int.{w64, to_le_bytes, from_le_bytes}
 use Rattle.std.specs.Int.Bits.{bit_and}
@@ -48,7 +48,7 @@ same_front xs ys a b m k xlen ylen xall yall ais bis le same lt =
     let low : a % 2 ^ (8 * m) ≡ b % 2 ^ (8 * m) = sym (and_mask a (8 * m)) ∙ same ∙ and_mask b (8 * m) in
     byte_of_word xs a k xlen xall ais (omega (arith, le, lt)) ∙ same_byte a b m k low lt ∙ sym (byte_of_word ys b k ylen yall bis (omega (arith, le, lt)))
 
--- a token with a separator after it is told by these bytes
+-- a token with a separator after it is fixed by these bytes
 pub same_token : (xs ys : List ℕ) (value n : ℕ) → length xs ≡ length ys → n < length ys → ((k : ℕ) → k < n + 1 → get_or xs k 0 ≡ get_or ys k 0) → IsPlainToken ys value n → IsPlainToken xs value n
 same_token xs ys value n len lt same h =
     let before : (k : ℕ) → k < n → is_separator (get_or xs k 0) ≡ false = λ k below. ap is_separator (same k (omega (arith, below))) ∙ fails_before_first is_separator ys k 0 (omega (arith, below, h.token)) in
@@ -65,7 +65,7 @@ same_token xs ys value n len lt same h =
       small = h.small;
     }
 
--- so the bytes under the mask tell the token
+-- so the bytes under the mask fix the token
 pub told_by_word : (ys : List ℕ) (b value n mask : ℕ) → length ys ≡ 8 → AreBytes ys → b ≡ from_le_bytes w64 ys → n < 7 → mask ≡ 2 ^ (8 * (n + 1)) - 1 → IsPlainToken ys value n
     → (xs : List ℕ) (a : ℕ) → length xs ≡ 8 → AreBytes xs → a ≡ from_le_bytes w64 xs → bit_and a mask ≡ bit_and b mask → (n < 7) × IsPlainToken xs value n
 told_by_word ys b value n mask ylen yall bis few mask_is h xs a xlen xall ais same =

@@ -36,6 +36,7 @@ abbrev pub least_of : List ℤ → ℤ
 least_of [] = pos 0
 least_of (z ∷ zs) = lowest z zs
 
+-- the arc is one of the person's
 abbrev pub is_his : ℕ → Arc → Bool
 is_his person a = a.person == person
 
@@ -43,6 +44,7 @@ is_his person a = a.person == person
 abbrev pub worths : (Arc → ℤ) → List Arc → ℕ → List ℤ
 worths worth arcs person = map worth (filter (is_his person) arcs)
 
+-- the least value of a person's arcs, by this measure
 abbrev pub least_worth : (Arc → ℤ) → List Arc → ℕ → ℤ
 least_worth worth arcs person = least_of (worths worth arcs person)
 

@@ -29,6 +29,7 @@ abbrev pub first_fault : ℕ → ℕ → ℕ → List Arc → Option ListFault
 first_fault persons objects place [] = None
 first_fault persons objects place (a ∷ arcs) = option_or (fault_at persons objects place a) (first_fault persons objects (suc place) arcs)
 
+-- the fault of the numbers of persons and objects, if they have one
 abbrev pub counts_fault : ℕ → ℕ → Option ListFault
 counts_fault persons objects =
     if not (nat_le 1 persons && nat_le persons MOST_PERSONS) then Some Persons else
@@ -42,6 +43,7 @@ problem_fault p = option_or (counts_fault p.persons p.objects) (first_fault p.pe
 abbrev pub list_fault : ℕ → ℕ → List Arc → Option ListFault
 list_fault persons wanted arcs = problem_fault (problem_from persons wanted arcs)
 
+-- the problem, or the fault if there is one
 abbrev pub unless : Problem → Option ListFault → Result Problem ListFault
 unless p None = Ok p
 unless p (Some fault) = Err fault

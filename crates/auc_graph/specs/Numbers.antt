@@ -24,7 +24,7 @@ is_magnitude bytes =
 unfoldable pub magnitude : List ℕ → Option ℕ
 magnitude bytes = if is_magnitude bytes then Some (digits_value 10 (before_first is_point bytes)) else None
 
--- whether the first byte is a minus, and the bytes after the sign, if there is one
+-- whether the first byte is a minus, and the bytes after the sign, or all bytes if there is no sign
 unfoldable pub split_sign : List ℕ → Bool × List ℕ
 split_sign [] = (false, [])
 split_sign (b ∷ bytes) = if b == 43 then (false, bytes) else (if b == 45 then (true, bytes) else (false, b ∷ bytes))
@@ -52,7 +52,7 @@ abbrev pub fraction_len : List ℕ → ℕ
 fraction_len [] = 0
 fraction_len (b ∷ bytes) = if is_point b then suc (prefix_len is_zero bytes) else 0
 
--- the token at the front consists of len digits, and their value is at most 10 ^ 18
+-- the token at the front consists of len digits of this value, which is at most 10 ^ 18
 pub record IsPlainToken (bytes : List ℕ) (value len : ℕ) : Type 0 where
   pub token : len ≡ position_or_len is_separator bytes
   pub some : 0 < len

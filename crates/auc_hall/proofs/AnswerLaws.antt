@@ -1,4 +1,4 @@
--- That what is answered is an assignment, or a set of persons who know too few objects.
+-- The answer is an assignment or a Hall set.
 use Rattle.std.proofs.Common.{◌≡◌, ◌≢◌, ℕ, zero, suc, ◌+◌, ◌<◌, Bool, true, false, List, [], ◌∷◌, ◌++◌, length, get_or, set, take, drop, map, Option, Some, None, refl, sym, ap, subst, ◌∙◌, arith, inl, inr, Contains, append_assoc, replicate}
 use Rattle.std.specs.List.{slice_get}
 use Rattle.std.proofs.lemmas.List.{take_more, drop_more, length-set, length-append, length-replicate, get_or-set_same, get_or-set_other}
@@ -72,7 +72,7 @@ no_flags flags persons is =
       count = count_none flags none;
     }
 
--- The persons who were reached know the objects that were seen, which are one fewer.
+-- The persons reached by the search have arcs only to the objects seen, which are one fewer: a Hall set.
 pub is_hall_set : (t : Table) (queue : List Reached) (seen flags : List Bool) → AreKnown t queue → AreSeen t queue seen → AreWalked t queue seen (length queue) → AreReached queue (length t.rows) flags
     → IsRowHallSet t (places 0 flags) (places 0 seen)
 is_hall_set t queue seen flags known marks walked r =
@@ -108,7 +108,7 @@ length-chosen [] all = refl
 length-chosen (Some b ∷ choice) all = ap suc (length-chosen choice (λ k lt. all (suc k) (omega arith)))
 length-chosen (None ∷ choice) all = let x = all 0 (omega arith) in absurd (none-some x.0 x.1)
 
--- Where each person has an arc, the arcs are an assignment.
+-- If each person has an arc, the arcs are an assignment.
 pub is_assignment : (t : Table) (choice : List (Option RowArc)) (holder : List (Option ℕ)) → IsMatched t choice holder → ((i : ℕ) → i < length t.rows → IsPlaced choice i) → IsRowAssignment t (chosen choice)
 is_assignment t choice holder m done =
     let all : (i : ℕ) → i < length choice → IsPlaced choice i = λ i lt. done i (omega (arith, m.persons)) in

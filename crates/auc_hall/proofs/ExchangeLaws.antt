@@ -14,8 +14,8 @@ use Rattle.auc_hall.specs.Completion.IsExchange.{takes_free, takes_over}
 use Rattle.auc_hall.proofs.Options.{read_set, read_unset, is_within, other_place, same_read}
 use Rattle.auc_hall.proofs.MatchedLaws.{moved, placed, kept_set, untaken}
 
--- What the exchange keeps: all is a partial assignment at each step, the arc at hand leads to a free object, and an
--- exchange that goes on from it is one from the object at which it began.
+-- The invariant of the exchange: the partial assignment holds at each step, and the arc at hand leads to a free object.
+-- An exchange that continues from it is one from the object at which it began.
 pub record IsUnderWay (t : Table) (queue : List Reached) (before choice : List (Option RowArc)) (holder : List (Option ℕ)) (began at : ℕ) (arc : RowArc) : Type 0 where
   pub matched : IsMatched t choice holder
   pub has : HasArc t queue at arc
@@ -66,7 +66,7 @@ goes_on t queue before choice holder first_holder began at arc e w trail up h =
       going = λ after x. w.going after (takes_over choice arc.object e.person arc b.0 (untaken t choice holder arc.object w.matched w.free) his refl b.1 (subst (λ (j : ℕ). IsExchange t after (set choice e.person (Some arc)) j) (sym b.2) x));
     }
 
--- what the exchange has made in the end
+-- the result of the exchange
 pub record IsExchanged (t : Table) (queue : List Reached) (before choice : List (Option RowArc)) (holder : List (Option ℕ)) (began : ℕ) : Type 0 where
   pub matched : IsMatched t choice holder
   pub first : (e : Reached) → slice_get queue 0 ≡ Some e → IsPlaced choice e.person

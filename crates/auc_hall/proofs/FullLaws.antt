@@ -1,4 +1,4 @@
--- Persons who each hold an object by an arc of theirs have an assignment.
+-- If each person holds an object by an arc to it, there is an assignment.
 use Rattle.std.proofs.Common.{◌≡◌, ◌∙◌, ℕ, zero, suc, ◌<◌, List, [], ◌∷◌, ◌++◌, length, Option, Some, refl, sym, ap, subst, arith, inl, inr, Contains}
 use Rattle.std.specs.List.{slice_get}
 use Rattle.std.proofs.lemmas.List.{length-append}
@@ -9,7 +9,7 @@ use Rattle.auc_hall.specs.Matched.{holder_of}
 use Rattle.auc_hall.specs.Full.{HasRowAssignment, HoldsOne}
 use Rattle.auc_hall.proofs.QueueLaws.{get_cases}
 
--- arcs of the first so many persons, to objects that they hold
+-- arcs of the first n persons, to objects that they hold
 record AreHeld (t : Table) (holder : List (Option ℕ)) (n : ℕ) (choice : List RowArc) : Type 0 where
   pub many : length choice ≡ n
   pub own : (i : ℕ) (a : RowArc) → slice_get choice i ≡ Some a → Contains (row_of t i) a

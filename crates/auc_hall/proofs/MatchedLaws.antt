@@ -110,6 +110,6 @@ kept_set choice p a p_in i x = elim (cases_eq i p) [
   | inr n ↦ (x.0, read_unset choice p i (Some a) n ∙ x.1)
 ]
 
--- an object without a holder is in nobody's hand
+-- no person has the arc of an object without a holder
 pub untaken : (t : Table) (choice : List (Option RowArc)) (holder : List (Option ℕ)) (j : ℕ) → IsMatched t choice holder → holder_of holder j ≡ None → IsUntaken choice j
 untaken t choice holder j m free i b h e = none-some i (sym free ∙ ap (λ (k : ℕ). get_or holder k None) (sym e) ∙ m.tied.taken i b h)

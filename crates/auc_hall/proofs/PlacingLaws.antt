@@ -18,7 +18,7 @@ found_in row test a h =
     let e : slice_get row (position_or_len test row) ≡ Some a = sym (find_at test row) ∙ sym h in
     (position_or_len test row, slice_get_within row (position_or_len test row) a e, get_or_from_slice_get row (position_or_len test row) a a e)
 
--- the arcs of a row have numbers of their own
+-- the arcs of a row have different numbers
 same_number : (row : List RowArc) (a b : RowArc) → AllPairs (λ a b. a.arc < b.arc) row → Contains row a → Contains row b → a.arc ≡ b.arc → a ≡ b
 same_number row a b rising (k, k_lt, k_is) (m, m_lt, m_is) e =
     let at_m : get_or row m a ≡ b = get_or_default row m a b m_lt ∙ m_is in

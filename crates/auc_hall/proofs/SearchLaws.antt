@@ -92,7 +92,7 @@ reach t choice holder queue seen y matched s new =
       };
     }
 
--- What the walk over a row keeps.
+-- The invariant of the pass over a row.
 pub record IsWalk (t : Table) (choice : List (Option RowArc)) (holder : List (Option ℕ)) (old_queue queue : List Reached) (old_seen seen : List Bool) (row : List RowArc) (i : ℕ) : Type 0 where
   pub search : IsSearch t choice holder queue seen
   pub grows : Grows old_queue queue
@@ -155,7 +155,7 @@ pub way_out : (t : Table) (holder : List (Option ℕ)) (old_queue queue : List R
     → holder_of holder (get_or row i no_arc).object ≡ None → (get_or row i no_arc).object < length holder → LeadsOut t holder queue at (get_or row i no_arc)
 way_out t holder old_queue queue at row i g at_lt e lt free room = record { has = has_his_arc t old_queue queue at row i g at_lt e lt; free = free; room = room }
 
--- who was just put into the queue has an arc to a free object
+-- the person last put into the queue has an arc to a free object
 pub last_way_out : (t : Table) (holder : List (Option ℕ)) (old_queue queue : List Reached) (y : Reached) (at : ℕ) (a : RowArc) → queue ≡ old_queue ++ y ∷ [] → at + 1 ≡ length queue → IsFreeArc t holder y.person a → LeadsOut t holder queue at a
 last_way_out t holder old_queue queue y at a is here f =
     let place : at ≡ length old_queue = omega (arith, here, ap length is, length-append old_queue (y ∷ [])) in

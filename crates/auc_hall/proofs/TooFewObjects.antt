@@ -1,4 +1,4 @@
--- Persons who together know fewer objects than they number can't all be assigned.
+-- The persons of a Hall set can't all be assigned.
 use Rattle.std.proofs.Common.{◌≡◌, ◌≢◌, ℕ, zero, suc, ◌+◌, ◌-◌, ◌<◌, ◌≤◌, false, eqb, List, length, get_or, map, sym, ap, subst, ◌∙◌, arith, inl, inr, Contains, pos}
 use Rattle.std.specs.Prelude.{nat_eq}
 use Rattle.std.specs.List.{remove, IsDistinct}
@@ -25,7 +25,7 @@ still_contained xs k x lt other (m, m_lt, is) = elim (cases_lt m k) [
       (m - 1, omega (arith, length-remove xs k lt), get_or-remove_above xs k x (m - 1) (omega arith) lt ∙ ap (λ (n : ℕ). get_or xs n x) back ∙ is)
 ]
 
--- so many different numbers of a list are no more than it has places
+-- n different numbers of a list are at most as many as its places
 pub pigeonhole : (n : ℕ) (f : ℕ → ℕ) (ys : List ℕ) → ((i k : ℕ) → i < k → k < n → f i ≢ f k) → ((i : ℕ) → i < n → Contains ys (f i)) → n ≤ length ys
 pigeonhole zero f ys apart in_list = omega arith
 pigeonhole (suc n) f ys apart in_list =
@@ -37,7 +37,7 @@ pigeonhole (suc n) f ys apart in_list =
 unequal : (m n : ℕ) → eqb m n ≡ false → m ≢ n
 unequal m n h e = grind (arith, nat_tests)
 
--- at different places of a list without repeats stand different numbers
+-- at different places of a list without repeats are different numbers
 differ_at : (ks : List ℕ) (m n : ℕ) → IsDistinct nat_eq ks → m ≢ n → m < length ks → n < length ks → get_or ks m 0 ≢ get_or ks n 0
 differ_at ks m n different others m_lt n_lt = elim (cases_lt m n) [
   | inl below ↦ unequal (get_or ks m 0) (get_or ks n 0) (apart_from_distinct nat_eq ks m n 0 different below n_lt)

@@ -8,6 +8,7 @@ use Rattle.auc_hall.specs.Partial.{pick}
 abbrev pub holder_of : List (Option ℕ) → ℕ → Option ℕ
 holder_of holder j = slice_index_or holder j None
 
+-- the person has an arc
 abbrev pub IsPlaced : List (Option RowArc) → ℕ → Type 0
 IsPlaced choice i = (a : RowArc) × (pick choice i ≡ Some a)
 
@@ -17,6 +18,7 @@ pub record AreTied (choice : List (Option RowArc)) (holder : List (Option ℕ)) 
   pub taken : (i : ℕ) (a : RowArc) → pick choice i ≡ Some a → holder_of holder a.object ≡ Some i
   pub held : (j i : ℕ) → holder_of holder j ≡ Some i → (a : RowArc) × (pick choice i ≡ Some a) × (a.object ≡ j)
 
+-- a partial assignment by these rows, kept both by persons and by objects: each arc is in its person's row
 pub record IsMatched (t : Table) (choice : List (Option RowArc)) (holder : List (Option ℕ)) : Type 0 where
   pub persons : length choice ≡ length t.rows
   pub objects : length holder ≡ t.objects

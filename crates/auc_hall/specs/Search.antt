@@ -36,6 +36,7 @@ marked [] = 0
 marked (false ∷ flags) = marked flags
 marked (true ∷ flags) = 1 + marked flags
 
+-- the object's flag is set
 abbrev pub WasSeen : List Bool → ℕ → Type 0
 WasSeen seen j = slice_index_or seen j false ≡ true
 
@@ -55,6 +56,7 @@ abbrev pub AreWalked : Table → List Reached → List Bool → ℕ → Type 0
 AreWalked t queue seen at =
     (m : ℕ) (e : Reached) → m < at → slice_get queue m ≡ Some e → All (λ a. WasSeen seen a.object) (row_of t e.person)
 
+-- the invariant of the search: a queue of reached persons that starts with one without an arc, and the objects seen
 pub record IsSearch (t : Table) (choice : List (Option RowArc)) (holder : List (Option ℕ)) (queue : List Reached)
     (seen : List Bool) : Type 0 where
   pub trail : IsTrail t holder queue

@@ -1,4 +1,4 @@
--- What changing one lane of a pool makes of its parts.
+-- The parts of a pool after one lane has changed.
 use Rattle.std.proofs.Common.{◌≡◌, ◌≢◌, ℕ, ◌+◌, ◌-◌, ◌*◌, ◌<◌, ◌≤◌, Bool, false, List, [], length, get_or, set, map, ap, sym, ◌∙◌, subst, ⊎_elim, arith, length-set}
 use Rattle.std.specs.List.{range_with_len, sum_by}
 use Rattle.std.proofs.lemmas.List.{map-set, set-get_or, get_or-map, get_or-set_same, get_or-set_other}

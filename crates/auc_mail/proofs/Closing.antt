@@ -1,4 +1,4 @@
--- What closing a box makes of a pool's parts.
+-- The parts of a pool after a box is closed.
 use Rattle.std.proofs.Common.{◌≡◌, ℕ, ◌<◌, Bool, false, List, length, set, ap}
 use Rattle.std.proofs.lemmas.List.{map-set}
 use Rattle.auc_nodes.specs.Lists.{Lists}

@@ -1,4 +1,4 @@
--- What a pool's parts say of its mail.
+-- The mail that the parts of a pool stand for.
 use Rattle.std.proofs.Common.{◌≡◌, ◌≢◌, ℕ, ◌+◌, ◌-◌, ◌*◌, ◌^◌, ◌<◌, ◌≤◌, false, List, [], length, get_or, ap, sym, ◌∙◌, arith, replicate}
 use Rattle.std.specs.List.{range_with_len, sum_by}
 use Rattle.std.proofs.lemmas.List.{same_lists, length-map, length-replicate, get_or-map, get_or-replicate, get_or_read, nil_from_length}
@@ -66,7 +66,7 @@ module _ {T : Type 0} {senders most : ℕ} {boxes : List MailBox} {posted : List
     within_most = λ b s h. omega (arith, posted_is b s h.0 (box_within b h.1), kept.spent (b * senders + s) (lane_within b s h.0 (box_within b h.1)));
   }
 
-  -- how many letters wait in a box
+  -- the number of letters that wait in a box
   pub waiting_at_is : (b : ℕ) → b < length boxes → waiting_at (mail_of senders most boxes posted pool) b ≡ (box_of boxes b).waiting
   waiting_at_is b hb =
       let m : Mail T = mail_of senders most boxes posted pool in

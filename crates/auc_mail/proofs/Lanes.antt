@@ -20,7 +20,7 @@ sum_maps : {A B C : Type 0} (h : B → ℕ) (g : C → ℕ) (f : A → B) (f' : 
 sum_maps h g f f' same [] = refl
 sum_maps h g f f' same (x ∷ xs) = omega (arith, sum_by-cons h (f x) (map f xs), sum_by-cons g (f' x) (map f' xs), same x, sum_maps h g f f' same xs)
 
--- how many letters wait in all lanes
+-- the number of letters that wait in all lanes
 pub sum_lanes : {T : Type 0} (posted : List ℕ) (lists : List (List T)) → length lists ≡ length posted
     → sum_by (λ (l : Lane T). length l.waiting) (lanes_of posted lists) ≡ sum_by (λ (xs : List T). length xs) lists
 sum_lanes {T} posted lists size =

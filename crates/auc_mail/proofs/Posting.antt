@@ -1,4 +1,4 @@
--- What posting a letter makes of a pool's parts.
+-- The parts of a pool after a letter is posted.
 use Rattle.std.proofs.Common.{◌≡◌, ℕ, ◌+◌, ◌-◌, ◌*◌, ◌^◌, ◌≤◌, ◌<◌, true, false, List, [], ◌∷◌, ◌++◌, length, get_or, set, refl, ap, sym, ◌∙◌, arith, length-append}
 use Rattle.auc_nodes.specs.Lists.{Lists, with_list}
 use Rattle.auc_nodes.specs.Lists as nodes

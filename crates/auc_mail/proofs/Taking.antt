@@ -1,4 +1,4 @@
--- What taking a letter makes of a pool's parts.
+-- The parts of a pool after a letter is taken.
 use Rattle.std.proofs.Common.{◌≡◌, ℕ, ◌+◌, ◌-◌, ◌*◌, ◌<◌, ◌≤◌, true, false, List, [], ◌∷◌, length, get_or, set, refl, ap, sym, ◌∙◌, subst, arith}
 use Rattle.std.proofs.lemmas.List.{get_or_read, set-get_or}
 use Rattle.auc_nodes.specs.Lists.{Lists, with_list}

@@ -1,4 +1,5 @@
--- How a pool keeps a mail: a list of letters and a count for each lane, and for each box what its lanes have together.
+-- The representation of a mail in a pool: a list of letters and a count for each lane, and for each box the sum over
+-- its lanes.
 use Rattle.std.specs.Prelude.{◌≡◌, ℕ, ◌+◌, ◌-◌, ◌*◌, ◌<◌, ◌≤◌, true, false, List, [], length, slice_index_or, map, sum_by}
 use Rattle.std.specs.List.{range_with_len}
 use Rattle.auc_nodes.specs.Lists.{Lists}
@@ -24,7 +25,7 @@ lane_at posted lists k = record
 abbrev pub lanes_of : {T : Type 0} → List ℕ → List (List T) → List (Lane T)
 lanes_of posted lists = map (lane_at posted lists) (range_with_len 0 (length posted))
 
--- the mail that the pool's parts make
+-- the mail that the pool's parts stand for
 abbrev pub mail_of : {T : Type 0} → ℕ → ℕ → List MailBox → List ℕ → Lists T → Mail T
 mail_of senders most boxes posted pool =
     record {
@@ -41,11 +42,11 @@ mail_of senders most boxes posted pool =
 abbrev pub IsLaneOf : ℕ → ℕ → ℕ → Type 0
 IsLaneOf senders b k = (b * senders ≤ k) × (k < b * senders + senders)
 
--- how many letters wait in the lanes of a box
+-- the number of letters that wait in the lanes of a box
 abbrev pub box_waiting : {T : Type 0} → ℕ → List (List T) → ℕ → ℕ
 box_waiting senders lists b = sum_by (λ s. length (slice_index_or lists (b * senders + s) [])) (range_with_len 0 senders)
 
--- what the parts keep
+-- the invariant of the parts
 pub record IsKept {T : Type 0} (senders most : ℕ) (boxes : List MailBox) (posted : List ℕ) (pool : Lists T) : Type 0 where
   pub lanes : length posted ≡ length boxes * senders
   pub lists : length pool.lists ≡ length posted

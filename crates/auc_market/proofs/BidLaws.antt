@@ -1,4 +1,4 @@
--- What a bid raises, and that it is no worse than the second arc by more than eps.
+-- A bid raises the price, and satisfies epsilon-complementary slackness at the new one.
 use Rattle.std.proofs.Common.{◌≡◌, ℕ, ◌<◌, inl, inr, List, length, get_or, set, ap, sym, ◌∙◌, arith}
 use Rattle.std.specs.Prelude.{ℤ, pos, ◌+ℤ◌, ◌-ℤ◌, ◌*ℤ◌, ◌≤ℤ◌, ◌<ℤ◌, ◌⊎◌, All}
 use Rattle.std.proofs.lemmas.Bool.{cases_eq}
@@ -12,7 +12,7 @@ use Rattle.auc_market.specs.Bid.{IsOffer, IsRaise}
 use Rattle.auc_market.specs.Scan.{endless, short_value}
 use Rattle.auc_market.specs.Shortlist.{IsBest, IsSecond}
 
--- prices of which one has risen are no lower
+-- prices of which one has risen are not lower
 pub risen : (prices : List ℤ) (j : ℕ) (amount : ℤ) → j < length prices → price_at prices j ≤ℤ amount → (k : ℕ) → price_at prices k ≤ℤ price_at (set prices j amount) k
 risen prices j amount lt up k =
     elim (cases_eq k j) [
@@ -20,7 +20,7 @@ risen prices j amount lt up k =
       | inr other ↦ (let h = get_or-set_other prices j k amount (pos 0) other in omega (arith, ints, h))
     ]
 
--- how much is added to the price beside eps
+-- the margin: what a bid adds to the price beside eps
 pub IsLead : List ShortArc → Best → ℤ → Type 0
 IsLead row b lead = (pos 0 ≤ℤ lead) × ((All (λ a. a ≡ b.arc) row) ⊎ (lead ≡ (b.second -ℤ b.value)))
 
@@ -46,7 +46,7 @@ module _ (scale eps : ℤ) (prices : List ℤ) (row : List ShortArc) (b : Best) 
   unfolding IsLead
   up = let l = is.0 in omega (arith, ints, sum, l, some)
 
-  -- he himself
+  -- the arc of the bid itself
   itself : (a : ShortArc) → a ≡ arc → short_value scale new arc ≤ℤ (short_value scale new a +ℤ eps)
   itself a same = let e = ap (short_value scale new) same in omega (arith, ints, e, some)
 
@@ -70,7 +70,7 @@ module _ (scale eps : ℤ) (prices : List ℤ) (row : List ShortArc) (b : Best) 
     slack = λ k d lt. no_better (get_or row k d) k lt (get_or_default row k arc d lt) (h.others k d lt) is.1;
   }
 
--- The amount is no more than the rule of a bid makes it.
+-- The amount is at most that of the rule of a bid.
 module _ (scale spread eps : ℤ) (prices : List ℤ) (row : List ShortArc) (b : Best) (lead scaled amount : ℤ) (h : IsBest (short_value scale prices) row b) (next : b.second <ℤ endless → lead ≡ (b.second -ℤ b.value)) (only : endless ≤ℤ b.second → lead ≡ scaled) (low : pos 0 ≤ℤ scaled) (product : scaled ≡ (scale *ℤ spread))
     (sum : amount ≡ ((price_at prices b.arc.object +ℤ lead) +ℤ eps)) where
   abbrev Seconds : Type 0

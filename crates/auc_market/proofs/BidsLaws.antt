@@ -1,4 +1,4 @@
--- Bids one after another are counted.
+-- Counting bids, one after another.
 use Rattle.std.proofs.Common.{◌≡◌, ◌∙◌, ℕ, ℤ, pos, ◌+◌, ◌-◌, ◌≤◌, ap, length, refl, subst, sym, arith}
 use Rattle.std.specs.Prelude.{◌+ℤ◌, ◌≤ℤ◌}
 use Rattle.std.proofs.lemmas.Int.{ints}
@@ -12,11 +12,11 @@ use Rattle.auc_market.specs.Bids.{AreCounted, IsBidMade, IsPathMade, AreSpent, A
 use Rattle.auc_market.specs.Bids.AreMade.{bids, goes, opens}
 use Rattle.auc_market.proofs.MarketLaws.{total_rises, total_set}
 
--- none so far
+-- no bid so far
 pub made_none : (r : FlatTable) (eps : ℤ) (left : ℕ) (s : State) → AreSpent r eps left left s s
 made_none r eps left s = record { made = 0; sum = omega arith; run = opens 0 s refl refl }
 
--- one more, and a path
+-- one more bid, and a path
 pub made_more : (r : FlatTable) (eps : ℤ) (before left after : ℕ) (s t u v : State) → AreSpent r eps before left s t → IsBidMade r eps t u → IsPathMade r eps u v → left ≡ after + 1 → AreSpent r eps before after s v
 made_more r eps before left after s t u v m bid gone one = record {
   made = m.made + 1;
@@ -24,7 +24,7 @@ made_more r eps before left after s t u v m bid gone one = record {
   run = goes (m.made + 1) u v (bids m.made (m.made + 1) t u m.run bid refl) gone;
 }
 
--- those of one run and those of the next
+-- the bids of one run, and then those of the next
 pub makes_on : (r : FlatTable) (eps : ℤ) (s t u : State) (m n : ℕ) → AreMade r eps s m t → AreMade r eps t n u → AreMade r eps s (m + n) u
 makes_on r eps s t u m n first (opens k v none same) = subst (λ (x : State). AreMade r eps s (m + n) x) (sym same) (subst (λ (k : ℕ). AreMade r eps s k t) (omega (arith, none)) first)
 makes_on r eps s t u m n first (bids k l v w run bid one) = bids (m + k) (m + n) v w (makes_on r eps s t v m k first run) bid (omega (arith, one))
@@ -68,7 +68,7 @@ made_raises r eps s t n sound some many (goes k u v run gone) =
 pub made_risen : (r : FlatTable) (eps : ℤ) (s t : State) (most : ℕ) → IsFlatTable r → pos 1 ≤ℤ eps → length s.prices ≡ r.objects → AreMadeWithin r eps most s t → total s.prices ≤ℤ total t.prices
 made_risen r eps s t most sound some many within = let up = (made_raises r eps s t within.made sound some many within.run).1 in omega (arith, ints, up)
 
--- those of a slice of a phase
+-- the bids of a slice of a phase
 pub made_slice : (r : FlatTable) (eps : ℤ) (most before slice : ℕ) (ending : Ending) (s t u : State) → ending ≡ Ending.Stopped Reason.Bids → slice ≤ before → AreSpent r eps most before s t → AreCounted r eps slice ending t u → AreSpent r eps most (before - slice) s u
 made_slice r eps most before slice ending s t u out le m is =
     let run : AreMade r eps t slice u = subst (λ (e : Ending). AreCounted r eps slice e t u) out is in

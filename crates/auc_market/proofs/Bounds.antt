@@ -1,4 +1,4 @@
--- How large the values are.
+-- The range of values.
 use Rattle.std.proofs.Common.{◌≡◌, ℕ, ◌+◌, ◌*◌, ◌≤◌, ◌^◌, arith, length, List, subst, sym, w64, pos, negsuc}
 use Rattle.std.specs.Prelude.{All, ℤ, ◌+ℤ◌, ◌*ℤ◌, ◌≤ℤ◌, neg_ℤ, FitsSigned, unsigned_abs}
 use Rattle.std.proofs.lemmas.Int.{ints, unsigned_abs-mul}
@@ -48,7 +48,7 @@ scaled_low r sound = product_low (scale_in r) r.spread (omega (arith, ints)) sou
 pub price_fits : (p : ℤ) → IsPrice p → FitsSigned w64 p
 price_fits p h = omega (arith, ints, h.low, h.high)
 
--- what an arc is worth
+-- the value of an arc
 pub value_in : (r : FlatTable) (prices : List ℤ) (s : ShortArc) → IsFlatTable r → All IsPrice prices → length prices ≡ r.objects → IsShort r.objects s → IsValue (short_value (scale_in r) prices s)
 value_in r prices s sound within many is =
     let p = All-get_or IsPrice prices s.object (pos 0) (let o = is.object in omega (arith, o, many)) within in

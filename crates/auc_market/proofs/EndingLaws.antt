@@ -30,7 +30,7 @@ ended_stopped : (r : FlatTable) (bids : ℕ) (s : State) (ending : Ending) (pric
 ended_stopped r bids s Ending.Sold prices owns is = tt
 ended_stopped r bids s (Ending.Stopped reason) prices owns is = is
 
--- each ending is one of a run in one hand
+-- each ending is one of a direct run
 pub ending_sold : (r : FlatTable) (bids : ℕ) (begun : State) (ending : Ending) (prices : List ℤ) (owns : List ShortArc) → IsEnding r bids begun ending prices owns → IsSold r ending owns
 ending_sold r bids begun Ending.Sold prices owns is = is
 ending_sold r bids begun (Ending.Stopped Reason.Bids) prices owns is = tt
@@ -39,22 +39,22 @@ ending_sold r bids begun (Ending.Stopped Reason.Posts) prices owns is = absurd i
 ending_sold r bids begun (Ending.Stopped Reason.Trail) prices owns is = absurd is
 ending_sold r bids begun (Ending.Stopped Reason.Mail) prices owns is = absurd is
 
--- what a phase leaves is what all leave, where it was the last
+-- what the last phase leaves is what all phases leave
 pub sold_left : (r : FlatTable) (eps : ℤ) (ending : Ending) (prices : List ℤ) (holders : List ℕ) (owns : List ShortArc) → Stands r eps prices holders owns → IsSold r ending owns → (ending ≡ Ending.Sold → eps ≡ pos 1) → IsLeft r ending prices holders owns
 sold_left r eps Ending.Sold prices holders owns stands is last = (subst (λ (e : ℤ). Stands r e prices holders owns) (last refl) stands, is)
 sold_left r eps (Ending.Stopped reason) prices holders owns stands is last = (eps, stands, is)
 
--- only a limit has stopped the phase, or who watched it
+-- only a limit has stopped the phase, or its watch
 pub watched_stopped : (before after : Bool) (r : FlatTable) (bids : ℕ) (s : State) (ending : Ending) (prices : List ℤ) (owns : List ShortArc) → IsToldOr before after ending (IsEnding r bids s ending prices owns) → IsToldOr before after ending (IsStopped r bids s ending prices)
 watched_stopped before after r bids s ending prices owns (inl told) = inl told
 watched_stopped before after r bids s ending prices owns (inr is) = inr (is.0, ended_stopped r bids s ending prices owns is.1)
 
--- the same of a run that began earlier, when no more had been said
+-- the same of a run that began earlier, when the watch hadn't yet said no
 pub stopped_before : (before between after : Bool) (r : FlatTable) (bids : ℕ) (s t : State) (ending : Ending) (prices : List ℤ) → between ≡ before → ArePhases r bids s t → total s.prices ≤ℤ total t.prices → IsToldOr between after ending (IsStopped r bids t ending prices) → IsToldOr before after ending (IsStopped r bids s ending prices)
 stopped_before before between after r bids s t ending prices same run le (inl told) = inl told
 stopped_before before between after r bids s t ending prices same run le (inr is) = inr (is.0 ∙ same, stopped_earlier r bids s t ending prices run le is.1)
 
--- a phase that was stopped by nobody has heard no no
+-- if a phase has sold all, its watch hasn't said no
 pub sold_going : (before after : Bool) (Holds : Type 0) → IsToldOr before after Ending.Sold Holds → after ≡ before
 sold_going before after Holds (inl told) = absurd (not_stopped told.1)
   where

@@ -1,4 +1,4 @@
--- Two persons bid in turn for one object: what is offered, and what two bids come to, computed.
+-- Two persons bid in turn for one object: the offers and the result of two bids, computed.
 use Rattle.std.proofs.Common.{◌≡◌, ◌⊎◌, zero, suc, inl, inr, refl, arith, [], ◌∷◌}
 use Rattle.std.specs.Prelude.{pos, ◌+ℤ◌, ◌≤ℤ◌, All}
 use Rattle.std.proofs.lemmas.Int.{ints}
@@ -21,18 +21,18 @@ far = record { object = 1; cost = pos 4 }
 abbrev pub alone : ShortArc
 alone = record { object = 0; cost = pos 2 }
 
--- costs are multiplied by 3, and the spread of all of them is 3
+-- costs are scaled by 3, and their spread is 3
 abbrev pub rows : FlatTable
 rows = record { objects = 2; spread = pos 3; rows = (near ∷ far ∷ []) ∷ (alone ∷ []) ∷ [] }
 
 abbrev pub first : State
 first = state (pos 0 ∷ pos 0 ∷ []) (NOBODY ∷ NOBODY ∷ []) (no_own ∷ no_own ∷ [])
 
--- the second arc of the first person is worth 9 more than his best one, and eps is 2
+-- the value of the first person's second arc is 9 more than that of the best one, and eps is 2
 abbrev pub between : State
 between = state (pos 11 ∷ pos 0 ∷ []) (0 ∷ NOBODY ∷ []) (near ∷ no_own ∷ [])
 
--- who has one arc offers the scaled spread, and eps
+-- a person with one arc offers the scaled spread, and eps
 abbrev pub last : State
 last = state (pos 22 ∷ pos 0 ∷ []) (1 ∷ NOBODY ∷ []) (no_own ∷ alone ∷ [])
 

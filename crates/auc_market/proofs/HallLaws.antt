@@ -1,4 +1,4 @@
--- Persons who have a flag, and the objects that they know, are a Hall set of the rows where the objects are fewer.
+-- Persons with a flag, and the objects to which they have arcs, are a Hall set of the rows if the objects are fewer.
 use Rattle.std.proofs.Common.{◌≡◌, ℕ, ◌+◌, ◌<◌, ◌≤◌, Bool, false, List, length, get_or, subst, ◌∙◌, arith, inl, inr, Contains}
 use Rattle.std.proofs.lemmas.Bool.{both_ways, cases_eq, cases_lt}
 use Rattle.std.proofs.lemmas.List.{get_or_past}
@@ -10,10 +10,10 @@ use Rattle.auc_hall.proofs.Membership.{place_of}
 use Rattle.auc_rows.specs.Rows.{FlatTable, flat_row_of}
 use Rattle.auc_market.specs.Hall.{AreAdded, AreKnownTo, IsShortHallSet, KnowsShort}
 
--- ---- the objects that persons with a flag know
+-- ---- the objects to which persons with a flag have arcs
 
 module _ (r : FlatTable) (is_in : List Bool) where
-  -- the row of one more person who has a flag
+  -- the row of one more person, with a flag
   pub row_known : (i : ℕ) (seen new : List Bool) → AreKnownTo r is_in i seen → WasSeen is_in i → AreAdded (flat_row_of r i) (length (flat_row_of r i)) seen new → AreKnownTo r is_in (i + 1) new
   row_known i seen new h has added = record {
     size = added.size ∙ h.size;
@@ -30,7 +30,7 @@ module _ (r : FlatTable) (is_in : List Bool) where
     ];
   }
 
-  -- and one who has none
+  -- and of one without a flag
   pub row_past : (i : ℕ) (seen : List Bool) → AreKnownTo r is_in i seen → get_or is_in i false ≡ false → AreKnownTo r is_in (i + 1) seen
   row_past i seen h none = record {
     size = h.size;

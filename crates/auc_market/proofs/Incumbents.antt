@@ -1,4 +1,4 @@
--- What was held once may be held at any lawful prices, where there are as many objects as persons.
+-- The incumbent may be held again at any prices in range, if there are as many objects as persons.
 use Rattle.std.proofs.Common.{ℕ, ℤ, ◌≡◌, ◌∙◌, List, ap, inl, inr, length, subst, sym}
 use Rattle.std.specs.Prelude.{All}
 use Rattle.auc_graph.specs.Price.{IsPrice}

@@ -1,4 +1,4 @@
--- An award keeps what holds between two bids.
+-- An award keeps the invariant between two bids.
 use Rattle.std.proofs.Common.{ℕ, ℤ, pos, zero, suc, ◌<◌, ◌^◌, ◌≡◌, ◌≢◌, arith, List, [], ◌∷◌, length, get_or, replicate, set, inl, inr, ap, sym, subst, ◌∙◌}
 use Rattle.std.specs.Prelude.{All, ◌+ℤ◌, ◌≤ℤ◌}
 use Rattle.std.proofs.lemmas.Bool.{cases_eq, cases_lt}
@@ -39,10 +39,10 @@ pub total_low : (prices : List ℤ) → All IsPrice prices → pos 0 ≤ℤ tota
 total_low [] all = omega (arith, ints)
 total_low (z ∷ zs) all = let first = (all 0 (pos 0) (omega arith)).low in let e = total_low zs (λ k d l. all (suc k) d (omega (arith, l))) in omega (arith, ints, first, e)
 
--- ---- who holds, and who has
+-- ---- holders, and persons with objects
 
 module _ (r : FlatTable) (eps : ℤ) (prices : List ℤ) (holders : List ℕ) (owns : List ShortArc) (sound : IsFlatTable r) (stands : Stands r eps prices holders owns) where
-  -- who has an object is a person
+  -- the number that has an object is a person
   pub owner_below : (i : ℕ) → (own_at owns i).object ≢ NOBODY → i < length r.rows
   owner_below i some =
       elim (cases_lt i (length r.rows)) [
@@ -50,7 +50,7 @@ module _ (r : FlatTable) (eps : ℤ) (prices : List ℤ) (holders : List ℕ) (o
         | inr past ↦ absurd (some (ap (λ (s : ShortArc). s.object) (get_or_past owns i no_own (let e = stands.owns_are in omega (arith, past, e)))))
       ]
 
-  -- what is held is an object
+  -- the number that is held is an object
   pub held_below : (j : ℕ) → holder_at holders j ≢ NOBODY → j < r.objects
   held_below j some =
       elim (cases_lt j r.objects) [
@@ -61,7 +61,7 @@ module _ (r : FlatTable) (eps : ℤ) (prices : List ℤ) (holders : List ℕ) (o
   pub not_nobody : (j : ℕ) → j < r.objects → j ≢ NOBODY
   not_nobody j l e = let m = sound.most_objects in omega (arith, l, e, m)
 
-  -- who holds an object has it
+  -- the holder of an object has it
   pub holder_has : (j : ℕ) → holder_at holders j ≢ NOBODY → (own_at owns (holder_at holders j)).object ≢ NOBODY
   holder_has j some e = not_nobody j (held_below j some) (sym (stands.held j some) ∙ e)
 
@@ -125,7 +125,7 @@ module _ (r : FlatTable) (eps : ℤ) (prices : List ℤ) (holders : List ℕ) (o
   holder_off : (k : ℕ) → k ≢ j → holder_at sold k ≡ holder_at holders k
   holder_off k ne = get_or-set_other holders j k i NOBODY ne
 
-  -- the bidder isn't the one who is displaced
+  -- the bidder isn't the displaced person
   apart : i ≢ d
   apart e =
       elim (cases_eq d NOBODY) [
@@ -152,11 +152,11 @@ module _ (r : FlatTable) (eps : ℤ) (prices : List ℤ) (holders : List ℕ) (o
   pub gone : (own_at left d).object ≡ NOBODY
   gone = ap (λ (x : ShortArc). x.object) own_gone
 
-  -- everybody else has what he had
+  -- every other person keeps the object
   pub others_have : (k : ℕ) → k ≢ i → k ≢ d → (own_at owns k).object ≢ NOBODY → (own_at left k).object ≢ NOBODY
   others_have k ni nd some e = some (sym (ap (λ (x : ShortArc). x.object) (own_off k ni nd)) ∙ e)
 
-  -- who has an object after it, and isn't the bidder, had it before, and it isn't that of the bid
+  -- a person with an object after the award, but for the bidder, had it before, and it isn't that of the bid
   pub had_before : (k : ℕ) → k ≢ i → (own_at left k).object ≢ NOBODY → ((own_at left k) ≡ (own_at owns k)) × ((own_at owns k).object ≢ NOBODY) × ((own_at owns k).object ≢ j)
   had_before k ni some =
       let nd : k ≢ d = λ e. some (ap (λ (m : ℕ). (own_at left m).object) e ∙ gone) in
@@ -220,7 +220,7 @@ module _ (r : FlatTable) (eps : ℤ) (prices : List ℤ) (holders : List ℕ) (o
       slack = slack_after;
     }
 
-  -- who waits has nothing still
+  -- the person that waits still has no object
   waits_still : (other : ℕ) → other ≢ i → (own_at owns other).object ≡ NOBODY → (own_at left other).object ≡ NOBODY
   waits_still other ni free =
       elim (cases_eq other d) [
@@ -228,7 +228,7 @@ module _ (r : FlatTable) (eps : ℤ) (prices : List ℤ) (holders : List ℕ) (o
         | inr nd ↦ (ap (λ (x : ShortArc). x.object) (own_off other ni nd) ∙ free)
       ]
 
-  -- all but the bidder and who waits had objects; now all but the displaced one and who waits
+  -- all but the bidder and the waiting person had objects; now all but the displaced and the waiting one
   pub all_but : (n other : ℕ) → HaveAllBut n owns i other → HaveAllBut n left d other
   all_but n other h = record {
     none = gone;
@@ -240,14 +240,14 @@ module _ (r : FlatTable) (eps : ℤ) (prices : List ℤ) (holders : List ℕ) (o
     ];
   }
 
--- what holds of lists holds of those that are the same
+-- the invariant holds of equal lists
 pub stands_by : (r : FlatTable) (eps : ℤ) (prices these : List ℤ) (holders they : List ℕ) (owns those : List ShortArc) → these ≡ prices → they ≡ holders → those ≡ owns → Stands r eps prices holders owns → Stands r eps these they those
 stands_by r eps prices these holders they owns those e f g h =
     subst (λ (ps : List ℤ). Stands r eps ps they those) (sym e)
     (subst (λ (hs : List ℕ). Stands r eps prices hs those) (sym f)
     (subst (λ (os : List ShortArc). Stands r eps prices holders os) (sym g) h))
 
--- an object is taken at a price that is no lower, by which its taker is within eps of his best
+-- a person takes an object at a price that is no lower, and at which its arc satisfies epsilon-complementary slackness
 pub way_taken : (r : FlatTable) (eps : ℤ) (person : ℕ) (prices new : List ℤ) (holders sold : List ℕ) (owns left : List ShortArc) (d : ℕ) (s : ShortArc) (amount : ℤ) → IsFlatTable r → Stands r eps prices holders owns → person < length r.rows → (own_at owns person).object ≡ NOBODY
     → price_at prices s.object ≤ℤ amount → amount ≤ℤ pos (2 ^ 61) → IsSlack r eps (set prices s.object amount) person s → new ≡ set prices s.object amount → sold ≡ set holders s.object person → left ≡ set (set owns person s) (holder_at holders s.object) no_own → d ≡ holder_at holders s.object
     → IsWay r eps person prices new sold owns left d

@@ -17,7 +17,7 @@ use Rattle.auc_market.proofs.BidsLaws.{made_all, made_more, made_none, made_on, 
 use Rattle.auc_market.proofs.Bounds.{scaled_abs}
 use Rattle.auc_market.proofs.PhasesLaws.{counted_within, within_slice}
 
--- a bid at it fits
+-- a bid at this eps fits
 pub eps_fits : (r : FlatTable) (eps : ℤ) → IsFlatTable r → IsEpsOf r eps → IsEps eps
 eps_fits r eps sound is = record { low = is.low; high = by is.high }
   where
@@ -28,7 +28,7 @@ eps_fits r eps sound is = record { low = is.low; high = by is.high }
 pub eps_one : (r : FlatTable) → IsEpsOf r (pos 1)
 eps_one r = record { low = omega (arith, ints); high = inl refl }
 
--- a lesser one
+-- a smaller eps
 pub eps_below : (r : FlatTable) (eps next : ℤ) → IsEpsOf r eps → pos 1 ≤ℤ next → next ≤ℤ eps → IsEpsOf r next
 eps_below r eps next is low le = record { low = low; high = by is.high }
   where
@@ -59,7 +59,7 @@ spends_on a b c before mid after s t =
       spent = made_on a.table a.eps before mid after (state_at a) (state_at b) (state_at c) s.spent spent;
     }
 
--- a bid that would be too high has changed nothing
+-- a bid above the greatest price has changed nothing
 pub spends_still : (a b c : Position) (before left : ℕ) → c ≡ b → Spends before left a b → Spends before left a c
 spends_still a b c before left same s = subst (Spends before left a) (sym same) s
 
@@ -76,7 +76,7 @@ spends_slice most before slice ending a b c out le s is =
       spent = made_slice a.table a.eps most before slice ending (state_at a) (state_at b) (state_at c) out le s.spent counted;
     }
 
--- what so many bids are of a phase
+-- this number of bids is a phase, whole or in part
 pub spent_tried : (most left : ℕ) (a b : Position) → Law a → Spends most left a b → IsTried most a b
 spent_tried most left a b law s =
     let made = made_within a.table a.eps most left (state_at a) (state_at b) s.spent in
@@ -87,7 +87,7 @@ spent_tried most left a b law s =
       risen = made_risen a.table a.eps (state_at a) (state_at b) most law.sound law.eps.low law.stands.prices_are made;
     }
 
--- with a slice after them, however it has ended
+-- the same with a slice after them, however it has ended
 pub slice_tried : (most before slice : ℕ) (ending : Ending) (a b c : Position) → Law a → slice ≤ before → Spends most before a b → IsSlice slice ending b c → IsTried most a c
 slice_tried most before slice ending a b c law le s is =
     let counted : AreCounted a.table a.eps slice ending (state_at b) (state_at c) = rw (s.table, s.eps) at is.counted in
@@ -108,7 +108,7 @@ all_spent most left a b law none s =
 pub no_refinement : (p : Position) → IsRefinement p p
 no_refinement p = record { table = refl; refined = state_at p; is = record { owns = refl; risen = omega (arith, ints) }; after = inl refl; risen = omega (arith, ints) }
 
--- ---- what is known of a result
+-- ---- what holds of a result
 
 pub on_ok : {X E : Type 0} (P Q : X → Type 0) (r : Result X E) → ((x : X) → P x → Q x) → IfOk r P → IfOk r Q
 on_ok P Q (Ok x) f h = f x h

@@ -1,4 +1,4 @@
--- What a phase begins with.
+-- The start of a phase.
 use Rattle.std.proofs.Common.{ℕ, ℤ, pos, ◌<◌, ◌≤◌, ◌≡◌, arith, List, length, get_or, replicate, inl, inr, ap, sym, subst, ◌∙◌}
 use Rattle.std.specs.Prelude.{All, ◌⊎◌}
 use Rattle.std.proofs.lemmas.Int.{ints}
@@ -14,7 +14,7 @@ use Rattle.auc_market.specs.Endings.{IsStart}
 use Rattle.auc_market.specs.Market.{AreSpare, Stands, holder_at, no_own, own_at}
 use Rattle.auc_market.specs.Starts.{ArePricesOf}
 
--- a list of so many times the same
+-- a list of equal elements
 pub all_same : {X : Type 0} (a : X) (xs ys : List X) (n : ℕ) → length xs ≡ length ys → length xs ≤ n → ((k : ℕ) → k < n → get_or xs k a ≡ a) → xs ≡ replicate (length ys) a
 all_same a xs ys n len enough same =
     same_lists xs (replicate (length ys) a) (len ∙ sym (length-replicate (length ys) a))
@@ -42,9 +42,9 @@ stands_opened r first eps prices holders owns n m start objects persons nobody n
     spare (inl square) = inl square
     spare (inr zeros) = inr (λ j free. zeros.1 j)
 
--- ---- what a run begins with
+-- ---- the start of a run
 
--- no price at all
+-- all prices 0
 pub start_none : (r : FlatTable) (eps : ℤ) (n : ℕ) (prices : List ℤ) → n ≡ r.objects → prices ≡ replicate n (pos 0) → (r.objects ≡ length r.rows) ⊎ (eps ≡ pos 1) → IsStart r eps prices
 start_none r eps n prices many zeros start = record {
   each = ap length zeros ∙ length-replicate n (pos 0) ∙ many;
@@ -56,6 +56,6 @@ start_none r eps n prices many zeros start = record {
     by (inl square) = inl square
     by (inr one) = inr (one, λ j. ap (λ (ps : List ℤ). price_at ps j) zeros ∙ replicate_default n j (pos 0))
 
--- and where there are as many objects as persons, a run may begin with them
+-- prices to start from, if there are as many objects as persons
 pub start_at : (r : FlatTable) (start prices : List ℤ) → ArePricesOf r start → r.objects ≡ length r.rows → prices ≡ start → IsStart r (pos 1) prices
 start_at r start prices is square e = record { each = ap length e ∙ is.each; within = subst (All IsPrice) (sym e) is.within; spare = inl square }

@@ -17,7 +17,7 @@ phases_on r bids s t u first (plays v w run phase) = plays v w (phases_on r bids
 phases_on r bids s t u first (opens v w run opened) = opens v w (phases_on r bids s t v first run) opened
 phases_on r bids s t u first (refines v w run refined) = refines v w (phases_on r bids s t v first run) refined
 
--- however a phase ends, it has made no more bids than it may
+-- however a phase ends, it has made at most the allowed number of bids
 pub counted_within : (r : FlatTable) (eps : ℤ) (most : ℕ) (ending : Ending) (s t : State) → AreCounted r eps most ending s t → AreMadeWithin r eps most s t
 counted_within r eps most Ending.Sold s t is = is
 counted_within r eps most (Ending.Stopped Reason.Bids) s t is = record { made = most; few = omega arith; run = is }
@@ -26,7 +26,7 @@ counted_within r eps most (Ending.Stopped Reason.Posts) s t is = absurd is
 counted_within r eps most (Ending.Stopped Reason.Trail) s t is = absurd is
 counted_within r eps most (Ending.Stopped Reason.Mail) s t is = absurd is
 
--- those of a slice, after those of the ones before it
+-- the bids of a slice, after those of the slices before it
 pub within_slice : (r : FlatTable) (eps : ℤ) (most left slice : ℕ) (s t u : State) → AreSpent r eps most left s t → slice ≤ left → AreMadeWithin r eps slice t u → AreMadeWithin r eps most s u
 within_slice r eps most left slice s t u spent le made = record {
   made = spent.made + made.made;

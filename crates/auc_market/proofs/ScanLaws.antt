@@ -1,4 +1,4 @@
--- One arc more of a pass over a row.
+-- One more arc of a pass over a row.
 use Rattle.std.proofs.Common.{◌≡◌, ◌≢◌, ℕ, ◌+◌, ◌<◌, inl, inr, List, get_or, refl, ap, ◌∙◌, arith}
 use Rattle.std.specs.Int.{int_max, int_min}
 use Rattle.std.specs.Prelude.{ℤ, ◌≤ℤ◌, ◌<ℤ◌, ◌⊎◌}
@@ -76,7 +76,7 @@ same_found r v s p value second place =
     ap (λ (z : ℤ). record { value = z; second = r.second; place = r.place }) value
     ∙ (ap (λ (z : ℤ). record { value = v; second = z; place = r.place }) second ∙ ap (λ (n : ℕ). record { value = v; second = s; place = n }) place)
 
--- one value more, by the lesser and by what goes of two
+-- one more value, by the lesser of two and the one that is dropped
 lowered_by : (f : Found) (v : ℤ) (place : ℕ) (r : Found) → f.value ≤ℤ f.second → r.value ≡ int_min f.value v → r.second ≡ int_min f.second (int_max f.value v) → (v <ℤ f.value → r.place ≡ place) → (f.value ≤ℤ v → r.place ≡ f.place) → Lowered f v place r
 lowered_by f v place r ordered value second wins stays = record {
   wins = λ lt. same_found r v f.value place (omega (arith, ints, clamps, value, lt)) (let e : int_max f.value v ≡ f.value = omega (arith, ints, clamps, lt) in omega (arith, ints, clamps, second, e, ordered)) (wins lt);
@@ -84,8 +84,8 @@ lowered_by f v place r ordered value second wins stays = record {
   stays = λ ge over. same_found r f.value f.second f.place (omega (arith, ints, clamps, value, ge)) (let e : int_max f.value v ≡ v = omega (arith, ints, clamps, ge) in omega (arith, ints, clamps, second, e, over)) (stays ge);
 }
 
--- The two values are held against each other first: the lesser against the value, and what goes of these two, and the
--- greater, against the second.
+-- Two values are compared with each other first. Then the lesser is compared with the least value, and what remains
+-- with the second.
 module _ (f : Found) (one other : ℤ) (place : ℕ) (r : Found) (lesser greater rest gone : ℤ) (ordered : f.value ≤ℤ f.second) (lesser_is : lesser ≡ int_min one other) (greater_is : greater ≡ int_max one other) (rest_is : rest ≡ int_min f.second greater) (gone_is : gone ≡ int_max f.value lesser) (value : r.value ≡ int_min f.value lesser) (second : r.second ≡ int_min rest gone) (stays : f.value ≤ℤ lesser → r.place ≡ f.place) (first : lesser <ℤ f.value → one ≤ℤ other → r.place ≡ place) (next : lesser <ℤ f.value → other <ℤ one → r.place ≡ place + 1) where
   -- the first of the two is less than the value
   past_first : one <ℤ f.value → LoweredTwice f one other place r
@@ -100,7 +100,7 @@ module _ (f : Found) (one other : ℤ) (place : ℕ) (r : Found) (lesser greater
         lowered_by between other (place + 1) r (omega (arith, ints, lt)) (omega (arith, ints, clamps, best, lesser_is)) (omega (arith, ints, clamps, left, greater_is)) (next less) (first less),
       )
 
-  -- it is not; then the lesser of both seconds is left, whichever of the two comes behind
+  -- it is not; then the lesser of both seconds is left, whichever of the two comes later
   left_by : f.value ≤ℤ one → r.second ≡ int_min (int_min f.second one) (int_max f.value other)
   left_by ge =
       by_lt_z other one

@@ -1,4 +1,4 @@
--- Who has begun, who bids next, and who waits.
+-- The persons that have begun, the next bidder, and the one that waits.
 use Rattle.std.proofs.Common.{ℕ, ◌+◌, ◌<◌, ◌≤◌, ◌≡◌, ◌≢◌, refl, arith, List, length, inl, inr, ap, sym, subst}
 use Rattle.std.proofs.lemmas.Bool.{cases_eq, cases_lt}
 use Rattle.std.proofs.lemmas.List.{get_or_past}
@@ -9,23 +9,23 @@ use Rattle.auc_market.specs.declared.holdings.TheConstants.{NOBODY}
 use Rattle.auc_market.specs.Market.{HaveAllBut, HaveObjects, no_own, own_at}
 use Rattle.auc_market.specs.Position.{AreSold, IsChain, Position}
 
--- nobody has no object
+-- NOBODY has no object
 pub nobody_has : (owns : List ShortArc) → length owns ≤ MOST_PERSONS → (own_at owns NOBODY).object ≡ NOBODY
 nobody_has owns few = ap (λ (s : ShortArc). s.object) (get_or_past owns NOBODY no_own (omega (arith, few)))
 
--- two who are free
+-- two free persons
 pub two_free : (owns : List ShortArc) (person other : ℕ) → (own_at owns person).object ≡ NOBODY → (own_at owns other).object ≡ NOBODY → person ≢ other → HaveAllBut 0 owns person other
 two_free owns person other none waits apart = record { none = none; waits = waits; apart = λ _. apart; others = λ i l. absurd (omega (arith, l)) }
 
--- nobody is free
+-- no person is free
 pub all_have : (n : ℕ) (owns : List ShortArc) (person other : ℕ) → person ≡ NOBODY → other ≡ NOBODY → n ≤ MOST_PERSONS → HaveAllBut n owns person other → HaveObjects n owns
 all_have n owns person other e f few h i l = h.others i l (λ z. omega (arith, l, e, z, few)) (λ z. omega (arith, l, f, z, few))
 
--- one who waits, as one who bids
+-- the waiting person, as the bidder
 pub alone : (n : ℕ) (owns : List ShortArc) (waits : ℕ) → n ≤ MOST_PERSONS → length owns ≤ MOST_PERSONS → HaveAllBut n owns NOBODY waits → HaveAllBut n owns waits NOBODY
 alone n owns waits few many h = record { none = h.waits; waits = nobody_has owns many; apart = λ some. some; others = λ i l nw _. h.others i l (λ z. omega (arith, l, z, few)) nw }
 
--- persons who have objects, or are one of the two
+-- the persons passed over have objects, or are one of the two
 pub passed_have : (from to : ℕ) (owns : List ShortArc) (person other : ℕ) → ((i : ℕ) → from ≤ i → i < to → i ≢ person → i ≢ other → (own_at owns i).object ≢ NOBODY) → HaveAllBut from owns person other → HaveAllBut to owns person other
 passed_have from to owns person other passed h = record {
   none = h.none;
@@ -34,7 +34,7 @@ passed_have from to owns person other passed h = record {
   others = λ i l np nw. elim (cases_lt i from) [ inl lt ↦ h.others i lt np nw | inr ge ↦ passed i ge l np nw ];
 }
 
--- the first who is free waits
+-- the first free person waits
 pub first_waits : (first : ℕ) (owns : List ShortArc) → length owns ≤ MOST_PERSONS → (own_at owns first).object ≡ NOBODY → ((i : ℕ) → 0 ≤ i → i < first → i ≢ NOBODY → i ≢ NOBODY → (own_at owns i).object ≢ NOBODY) → first < MOST_PERSONS → HaveAllBut (first + 1) owns NOBODY first
 first_waits first owns many none passed few = record {
   none = nobody_has owns many;
@@ -43,7 +43,7 @@ first_waits first owns many none passed few = record {
   others = λ i l nn nf. passed i (omega arith) (omega (arith, l, nf)) nn nn;
 }
 
--- the next one begins, and bids in turn with who waits
+-- the next person begins, and bids in turn with the waiting one
 pub begins : (n : ℕ) (owns : List ShortArc) (waits : ℕ) → n < MOST_PERSONS → n ≢ waits → (own_at owns n).object ≡ NOBODY → HaveAllBut n owns NOBODY waits → HaveAllBut (n + 1) owns waits n
 begins n owns waits few ne none h = record {
   none = h.waits;
@@ -52,7 +52,7 @@ begins n owns waits few ne none h = record {
   others = λ i l nw nn. h.others i (omega (arith, l, nn)) (λ e. omega (arith, l, e, few)) nw;
 }
 
--- the last one bids alone
+-- the last person bids alone
 pub sold_of : (waits left : ℕ) (ended : Chain) (old new : Position) → new.table ≡ old.table → length old.table.rows ≤ MOST_PERSONS → length old.owns ≤ MOST_PERSONS → HaveAllBut (length old.table.rows) old.owns NOBODY waits → IsChain waits left ended old new → AreSold left ended new
 sold_of waits left Chain.Placed old new same few many h chain = rw same (chain (length old.table.rows) (rw same (omega arith)) (alone (length old.table.rows) old.owns waits few many h))
 sold_of waits left Chain.Bids old new same few many h chain = chain
@@ -60,7 +60,7 @@ sold_of waits left Chain.Ceiling old new same few many h chain = chain
 
 -- ---- turns
 
--- who bids in place of one who has bid: whoever is free then, or, where nobody is, the one who begins
+-- the next bidder after a bid: the displaced person, or the one that begins where no person is free
 pub record IsTurn (freed fresh next from : ℕ) : Type 0 where
   pub freed_is : freed ≢ NOBODY → (next ≡ freed) × (from ≡ fresh)
   pub fresh_is : freed ≡ NOBODY → (next ≡ fresh) × (from ≡ fresh + 1)

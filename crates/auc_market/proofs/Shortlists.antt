@@ -1,4 +1,4 @@
--- Lists of candidates.
+-- Candidate lists.
 use Rattle.std.proofs.Common.{◌≡◌, ℕ, ◌+◌, ◌<◌, ◌≤◌, inl, inr, List, [], ◌∷◌, ◌++◌, length, get_or, insert, set, take, ap, sym, subst, ◌∙◌, arith}
 use Rattle.std.specs.Prelude.{ℤ, ◌≤ℤ◌, ◌⊎◌, All, Contains}
 use Rattle.std.proofs.lemmas.Bool.{cases_eq, cases_lt}
@@ -50,7 +50,7 @@ module _ (val : ShortArc → ℤ) (row : List ShortArc) (f : Found) (h : IsFound
     second_is = second_by h.second_is;
   }
 
-  -- of two arcs and more one is the second
+  -- of two or more arcs, one is the second
   pub second_of_two : 2 ≤ length row → IsSecond val row f.second
   second_of_two two = by h.second_is
     where
@@ -58,7 +58,7 @@ module _ (val : ShortArc → ℤ) (row : List ShortArc) (f : Found) (h : IsFound
       by (inl e) = absurd (let one = e.1 in omega (arith, one, two))
       by (inr w) = second_worth w
 
--- by a list that says so much of the row
+-- by a list that says this of the row
 module _ (val : ShortArc → ℤ) (row : List ShortArc) (l : Shortlist) (b : Best) (its : IsBest val l.arcs.items b) (value : IsSecond val l.arcs.items b.second) (below : b.second ≤ℤ l.bound) where
   told_other : (a : ShortArc) → Contains l.arcs.items a ⊎ (l.bound ≤ℤ val a) → (a ≡ b.arc) ⊎ (b.second ≤ℤ val a)
   told_other a (inl there) = All-contains (λ c. (c ≡ b.arc) ⊎ (b.second ≤ℤ val c)) l.arcs.items a its.others there
@@ -93,14 +93,14 @@ module _ (val : ShortArc → ℤ) (seen : List ShortArc) (a : ShortArc) where
   wider : (arcs : List ShortArc) → All (Contains seen) arcs → All (Contains more) arcs
   wider arcs all = All-weaker (Contains seen) (Contains more) (λ b there. Contains-append_left seen (a ∷ []) b there) arcs all
 
-  -- one that is worth no less than the bound is left out
+  -- an arc whose value is at least the bound is left out
   pub gathered_out : (l : Shortlist) → l.bound ≤ℤ val a → Gathered val seen l → Gathered val more l
   gathered_out l out g = record {
     members = wider l.arcs.items g.members;
     rest = All-push (λ b. Contains l.arcs.items b ⊎ (l.bound ≤ℤ val b)) seen a g.rest (inr out);
   }
 
-  -- an arc comes in at some place, and the bound has not risen
+  -- an arc enters at some place, and the bound has not risen
   module _ (old new : Shortlist) (place : ℕ) where
     abbrev pushed : List ShortArc
     pushed = old.arcs.items ++ a ∷ []
@@ -121,7 +121,7 @@ module _ (val : ShortArc → ℤ) (seen : List ShortArc) (a : ShortArc) where
       rest = subst (λ (xs : List ShortArc). All (λ b. Contains xs b ⊎ (new.bound ≤ℤ val b)) more) (sym is) (All-push (λ b. Contains within b ⊎ (new.bound ≤ℤ val b)) seen a (All-weaker (λ b. Contains old.arcs.items b ⊎ (old.bound ≤ℤ val b)) (λ b. Contains within b ⊎ (new.bound ≤ℤ val b)) (stays_in low) seen g.rest) (inl (Contains-permutation pushed within a moved (Contains-push old.arcs.items a))));
     }
 
--- the last arc falls out, and the bound has risen neither above what it was nor above what that one is worth
+-- the last arc is dropped, and the bound is at most what it was and at most that arc's value
 pub gathered_drop : (val : ShortArc → ℤ) (seen : List ShortArc) (old new : Shortlist) (last : ℕ) → length old.arcs.items ≡ last + 1 → new.arcs.items ≡ take last old.arcs.items → new.bound ≤ℤ old.bound → new.bound ≤ℤ val (get_or old.arcs.items last no_arc) → Gathered val seen old → Gathered val seen new
 gathered_drop val seen old new last len is low out g = record {
   members = subst (All (Contains seen)) (sym is) (λ k d lt. (let short : k < last = (let n = length-take last old.arcs.items in omega (arith, lt, n)) in subst (Contains seen) (sym (get_or-take last old.arcs.items k d short)) (g.members k d (omega (arith, short, len)))));
@@ -163,7 +163,7 @@ kept_rises r prices new lists higher kept i = says_rises (scale_in r) prices new
 
 -- ---- the lists of all persons
 
--- lists that say nothing are right
+-- empty lists are correct
 pub kept_none : (r : FlatTable) (prices : List ℤ) (lists : List Shortlist) → All SaysNothing lists → Kept r prices lists
 kept_none r prices lists none i =
     inl
@@ -172,11 +172,11 @@ kept_none r prices lists none i =
       | inr past ↦ ap (λ (l : Shortlist). l.arcs.items) (get_or_past lists i no_list (omega (arith, past)))
     ])
 
--- the list of one of them is right
+-- the list of one person is correct
 pub says_at : (r : FlatTable) (prices : List ℤ) (lists : List Shortlist) (i : ℕ) (l : Shortlist) → i < length lists → l ≡ get_or lists i l → Kept r prices lists → Says (short_value (scale_in r) prices) (flat_row_of r i) l
 says_at r prices lists i l lt is kept = subst (Says (short_value (scale_in r) prices) (flat_row_of r i)) (sym (is ∙ get_or_default lists i l no_list lt)) (kept i)
 
--- one of them is another one
+-- one list is replaced
 pub kept_set : (r : FlatTable) (prices : List ℤ) (lists : List Shortlist) (i : ℕ) (l : Shortlist) → i < length lists → Says (short_value (scale_in r) prices) (flat_row_of r i) l → Kept r prices lists → Kept r prices (set lists i l)
 kept_set r prices lists i l lt says kept k =
     elim (cases_eq k i) [

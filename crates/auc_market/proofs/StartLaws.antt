@@ -1,4 +1,4 @@
--- What a run from start prices begins with.
+-- The start of a run from start prices.
 use Rattle.std.proofs.Common.{ℕ, ℤ, pos, ◌+◌, ◌<◌, ◌≡◌, ◌≢◌, arith, Contains, List, length, get_or, replicate, set, inl, inr, ap, sym, subst, ◌∙◌}
 use Rattle.std.specs.Prelude.{All, ◌⊎◌, ◌≤ℤ◌}
 use Rattle.std.proofs.lemmas.Bool.{cases_eq}
@@ -48,7 +48,7 @@ kept_on a b c first second j = by (first j) (second j)
     by (inl e) (inl f) = inl (f ∙ e)
     by (inr z) (inl f) = inr (f ∙ z)
 
--- ---- before anybody keeps anything
+-- ---- before any person keeps an object
 
 pub seated_none : (r : FlatTable) (start prices : List ℤ) (holders : List ℕ) (owns : List ShortArc) (n m : ℕ) → IsStart r (pos 1) prices → AreKept start prices → (r.objects ≡ length r.rows → prices ≡ start) → n ≡ r.objects → m ≡ length r.rows → holders ≡ replicate n NOBODY → owns ≡ replicate m no_own → AreSeated r start prices holders owns
 seated_none r start prices holders owns n m is kept same objects persons nobody none = record {
@@ -112,7 +112,7 @@ module _ (r : FlatTable) (start prices : List ℤ) (holders : List ℕ) (owns : 
     same = same_after;
   }
 
-  -- nobody else has one more
+  -- no other person gets an object
   pub none_after : (k : ℕ) → k ≢ i → (own_at owns k).object ≡ NOBODY → (own_at left k).object ≡ NOBODY
   none_after k ne e =
       elim (cases_eq k (holder_at holders s.object)) [
@@ -120,7 +120,7 @@ module _ (r : FlatTable) (start prices : List ℤ) (holders : List ℕ) (owns : 
         | inr nd ↦ (ap (λ (x : ShortArc). x.object) (market.own_off r any_eps prices holders owns i s amount sound seated.stands known none up fits k ne nd) ∙ e)
       ]
 
--- ---- a person leaves his object
+-- ---- a person gives up an object
 
 module _ (r : FlatTable) (prices : List ℤ) (holders : List ℕ) (owns : List ShortArc) (i : ℕ) (sound : IsFlatTable r) (stands : Stands r any_eps prices holders owns) (some : (own_at owns i).object ≢ NOBODY) where
   abbrev j : ℕ
@@ -159,7 +159,7 @@ module _ (r : FlatTable) (prices : List ℤ) (holders : List ℕ) (owns : List S
   pub kept_left : AreKept prices lower
   kept_left k = elim (cases_eq k j) [ inl e ↦ inr (ap (price_at lower) e ∙ lower_here) | inr ne ↦ inl (lower_off k ne) ]
 
-  -- who has an object after it had it before, and isn't the one who left
+  -- a person with an object afterwards had it before, and isn't the one that gave its object up
   had : (k : ℕ) → (own_at rest k).object ≢ NOBODY → (k ≢ i) × (own_at rest k ≡ own_at owns k) × ((own_at owns k).object ≢ NOBODY)
   had k has =
       let ne : k ≢ i = λ e. has (ap (λ (m : ℕ). (own_at rest m).object) e ∙ ap (λ (s : ShortArc). s.object) rest_here) in
@@ -206,7 +206,7 @@ module _ (r : FlatTable) (prices : List ℤ) (holders : List ℕ) (owns : List S
     slack = λ k has. (let h = had k has in any_slack r lower k (own_at rest k) sound within_left many_left (subst (Contains (flat_row_of r k)) (sym h.1) (stands.slack k h.2).listed));
   }
 
--- ---- where each who has an object is within eps of his best
+-- ---- where each person with an object satisfies epsilon-complementary slackness
 
 pub stands_within : (r : FlatTable) (eps : ℤ) (prices : List ℤ) (holders : List ℕ) (owns : List ShortArc) → IsFlatTable r → Stands r any_eps prices holders owns → ((i : ℕ) → i < length r.rows → (own_at owns i).object ≢ NOBODY → IsSlack r eps prices i (own_at owns i)) → Stands r eps prices holders owns
 stands_within r eps prices holders owns sound stands all = record {

@@ -1,4 +1,4 @@
--- What is left of a path that a search has proposed, once it was tried.
+-- The result of a path that a search has proposed, once it was tried.
 use Rattle.std.proofs.Common.{ℕ, ℤ, pos, ◌+◌, ◌<◌, ◌≤◌, ◌≡◌, ◌≢◌, arith, Contains, List, length, get_or, set, inl, inr, ap, sym, subst, ◌∙◌}
 use Rattle.std.specs.Prelude.{All, ◌⊎◌, ◌-ℤ◌, ◌≤ℤ◌}
 use Rattle.std.proofs.lemmas.Bool.{cases_eq}
@@ -19,7 +19,7 @@ use Rattle.auc_market.specs.Way.{IsWay}
 use Rattle.auc_market.proofs.MarketLaws.{slack_rises, way_taken}
 use Rattle.auc_market.proofs.StartLaws.{any_slack}
 
--- by a pass over his row that found nothing worth less than this
+-- by a pass over the person's row that found no value below this
 pub slack_of : (r : FlatTable) (eps : ℤ) (prices : List ℤ) (i : ℕ) (s : ShortArc) (scale least : ℤ) (row : List ShortArc) → scale ≡ scale_in r → row ≡ flat_row_of r i → Contains (flat_row_of r i) s → least ≡ (short_value scale prices s -ℤ eps) → All (λ b. least ≤ℤ short_value scale prices b) row → IsSlack r eps prices i s
 slack_of r eps prices i s scale least row e f listed l all =
     let mine : All (λ b. least ≤ℤ short_value (scale_in r) prices b) (flat_row_of r i) = subst (λ (xs : List ShortArc). All (λ b. least ≤ℤ short_value (scale_in r) prices b) xs) f (subst (λ (z : ℤ). All (λ b. least ≤ℤ short_value z prices b) row) e all) in
@@ -28,7 +28,7 @@ slack_of r eps prices i s scale least row e f listed l all =
 
 -- ---- prices may rise
 
--- one more of them may
+-- one more price may rise
 pub noted_more : (prices : List ℤ) (holders : List ℕ) (rises : List Rise) (n : ℕ) (rise : Rise) → n < length rises → ((m : ℕ) (d : Rise) → m < n → IsRise prices holders (get_or rises m d)) → IsRise prices holders rise → (m : ℕ) (d : Rise) → m < n + 1 → IsRise prices holders (get_or (set rises n rise) m d)
 noted_more prices holders rises n rise room below is m d lt =
     elim (cases_eq m n) [
@@ -83,7 +83,8 @@ module _ (prices : List ℤ) (holders : List ℕ) (rises : List Rise) (are : Are
       slack = λ i some. any_slack r new i (own_at owns i) sound within_after many_after (stands.slack i some).listed;
     }
 
-    -- whoever holds one of these objects is within eps of his best, and so is everybody else as before
+    -- each holder of one of these objects satisfies epsilon-complementary slackness, and so does every other person as
+    -- before
     pub raised_stands : AreWithin r eps new holders owns rises → Stands r eps new holders owns
     raised_stands within = record {
       prices_are = many_after;
@@ -103,7 +104,7 @@ module _ (prices : List ℤ) (holders : List ℕ) (rises : List Rise) (are : Are
 -- ---- and are taken back
 
 module _ (prices raised now : List ℤ) (holders : List ℕ) (rises : List Rise) (n : ℕ) (are : AreRises prices holders rises) (risen : AreRaised prices raised rises) (back : AreTakenBack prices raised now rises n) where
-  -- one more is
+  -- one more is taken back
   module _ (rise : Rise) (lt : n < length rises) (here : (d : Rise) → get_or rises n d ≡ rise) where
     abbrev new : List ℤ
     new = set now rise.object rise.before
@@ -160,12 +161,12 @@ module _ (prices raised now : List ℤ) (holders : List ℕ) (rises : List Rise)
           let is : (get_or rises listed.0 x.0).object ≡ k = ap (λ (y : Rise). y.object) at ∙ x.2 in
           ap (price_at now) (sym is) ∙ (back.done listed.0 x.0 (omega (arith, lt, over)) ∙ ap (price_at prices) is)
 
--- ---- ways
+-- ---- paths
 
 pub higher_same : (prices : List ℤ) → AreHigher prices prices
 higher_same prices k = omega (arith, ints)
 
--- a way, and from where it has led another one
+-- a path, and another one from where it has ended
 pub way_on : (r : FlatTable) (eps : ℤ) (first next last : ℕ) (prices mid new : List ℤ) (held sold : List ℕ) (owns had left : List ShortArc) → IsWay r eps first prices mid held owns had next → IsWay r eps next mid new sold had left last → IsWay r eps first prices new sold owns left last
 way_on r eps first next last prices mid new held sold owns had left one two = record {
   stands = two.stands;

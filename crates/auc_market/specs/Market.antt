@@ -13,11 +13,11 @@ use Rattle.auc_market.specs.Scan.{short_value}
 abbrev pub holder_at : List ℕ → ℕ → ℕ
 holder_at holders j = slice_index_or holders j NOBODY
 
--- what stands for the arc of a person who holds no object
+-- the arc that stands for none, where a person holds no object
 abbrev pub no_own : ShortArc
 no_own = record { object = NOBODY; cost = pos 0 }
 
--- the arc by which a person holds his object
+-- the arc by which a person holds an object
 abbrev pub own_at : List ShortArc → ℕ → ShortArc
 own_at owns i = slice_index_or owns i no_own
 

@@ -15,6 +15,7 @@ pub record IsRise (prices : List ℤ) (holders : List ℕ) (rise : Rise) : Type 
   pub more : rise.before ≤ℤ rise.amount
   pub most : rise.amount ≤ℤ pos (2 ^ 61)
 
+-- each of these is such a rise
 abbrev pub AreRises : List ℤ → List ℕ → List Rise → Type 0
 AreRises prices holders rises = All (IsRise prices holders) rises
 
@@ -24,6 +25,7 @@ HasRisen prices new rises k =
     (price_at new k ≡ price_at prices k)
     ⊎ ((rise : Rise) × Contains rises rise × (rise.object ≡ k) × (price_at new k ≡ rise.amount))
 
+-- the prices after some of these rises
 pub record AreRaised (prices new : List ℤ) (rises : List Rise) : Type 0 where
   pub many : length new ≡ length prices
   pub each : (k : ℕ) → HasRisen prices new rises k

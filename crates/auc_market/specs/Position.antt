@@ -36,6 +36,7 @@ state_at p = state p.prices p.holders p.owns
 
 -- ---- what always holds
 
+-- the laws of a position: sound rows, an arc for each person, an eps in range, and the invariant between two bids
 pub record Law (p : Position) : Type 0 where
   pub sound : IsFlatTable p.table
   pub arcs : EachHasArc p.table

@@ -1,4 +1,4 @@
--- What the counts say together: how many letters of each kind can be under way.
+-- What follows from the counts: the greatest numbers of letters of each kind under way.
 use Rattle.std.proofs.Common.{ℕ, zero, suc, ◌+◌, ◌*◌, ◌≤◌, ◌≡◌, arith}
 use Rattle.auc_letters.specs.declared.state.PersonState.{PersonState}
 use Rattle.auc_letters.specs.declared.state.PersonState.TheVariants.{Free, Holds, Waits}
@@ -34,7 +34,8 @@ module _ (g : Phase) (w : World) (c : Channels) (counts : Counts g w c) where
   pub firsts_le : w.count + everywhere g first_one c ≤ g.persons
   firsts_le = let h = held_le in omega (arith, h, counts.who_told)
 
-  -- where the hub has counted everyone, everyone waits for an award or holds, and nobody else has a letter under way
+  -- if the hub has counted every person, each one waits for an award or holds an object, and no other letter of theirs
+  -- is under way
   pub all_told : w.count ≡ g.persons → (held_objects g w ≡ g.persons) × (everywhere g bid_one c ≡ 0) × (everywhere g refused_one c ≡ 0) × (everywhere g outbid_one c ≡ 0) × (waiting_persons g w + holding_persons g w ≡ g.persons)
   all_told e =
       let b = busy in let f = firsts_le in (
@@ -45,6 +46,6 @@ module _ (g : Phase) (w : World) (c : Channels) (counts : Counts g w c) where
         omega (arith, b, f, e, counts.who_waits, counts.who_holds, counts.who_told),
       )
 
-  -- where nothing is under way and nobody is free, the hub has counted everyone: no stall
+  -- if nothing is under way and no person is free, the hub has counted every person: no stall
   pub no_stall : waiting_persons g w + holding_persons g w ≡ g.persons → everywhere g bid_one c ≡ 0 → everywhere g award_one c ≡ 0 → everywhere g refused_one c ≡ 0 → everywhere g outbid_one c ≡ 0 → everywhere g first_one c ≡ 0 → w.count ≡ g.persons
   no_stall e e1 e2 e3 e4 e5 = omega (arith, e, e1, e2, e3, e4, e5, counts.who_waits, counts.who_holds, counts.who_told)

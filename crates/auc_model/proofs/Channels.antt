@@ -1,4 +1,4 @@
--- Channels under the turns: what a take, a post, a letter that is dropped and an outbox that is filled make of them.
+-- Channels after each kind of turn: a take, a post, a letter that is dropped, and an outbox that is filled.
 use Rattle.std.proofs.Common.{ℕ, ◌+◌, ◌<◌, ◌≡◌, ◌≢◌, refl, arith, true, false, ◌&&◌, List, [], ◌∷◌, ◌++◌, append_assoc, inl, inr, ap, sym, ◌∙◌}
 use Rattle.std.specs.Prelude.{if◌then◌else◌, ◌==◌}
 use Rattle.std.proofs.lemmas.Bool.{cases_eq, cases_Bool, eqb-true, eq-eqb, and_parts}
@@ -35,11 +35,11 @@ same_to_self (To.Person s) = grind (arith, nat_tests)
 same_to_self (To.Object s) = grind (arith, nat_tests)
 same_to_self To.Hub = refl
 
--- what waits in the mails, by channel
+-- the letters that wait in the mails, by channel
 abbrev pub waits : World → Channels
 waits w t x = waiting (mail_of w t) (box_of t) x
 
--- what waits after a lane of one of the mails is set
+-- the letters that wait after a lane of one of the mails is set
 pub waits-set : (w : World) (t : To) (x : ℕ) (l : Lane Letter) → IsWhole (mail_of w t) → HasLane (mail_of w t) (box_of t) x
     → (u : To) (y : ℕ) → waits (with_mail w t (with_lane (mail_of w t) (box_of t) x l)) u y ≡ set_channel (waits w) t x l.waiting u y
 waits-set w (To.Person s) x l k h (To.Person r) y = waiting-set w.persons_mail s x l k h r y
@@ -52,7 +52,7 @@ waits-set w To.Hub x l k h To.Hub y = waiting-set w.hub_mail 0 x l k h 0 y
 waits-set w To.Hub x l k h (To.Person r) y = refl
 waits-set w To.Hub x l k h (To.Object r) y = refl
 
--- the mails do not touch the outboxes, and the other way round
+-- the mails don't change the outboxes, and outboxes don't change the mails
 out_of-with_mail : (g : Phase) (w : World) (t : To) (m : Mail Letter) (y : ℕ) → out_of g (with_mail w t m) y ≡ out_of g w y
 out_of-with_mail g w (To.Person s) m y = refl
 out_of-with_mail g w (To.Object s) m y = refl
@@ -80,7 +80,7 @@ waits-with_outbox w (ObjectShard s) os (To.Person r) x = refl
 waits-with_outbox w (ObjectShard s) os (To.Object r) x = refl
 waits-with_outbox w (ObjectShard s) os To.Hub x = refl
 
--- An empty outbox is filled: the letters stand last on their channels
+-- An empty outbox is filled: its letters come last on their channels.
 module _ (g : Phase) (w : World) (lost : Lost) (h : Shard) (os : List Out) (in_range : number h < g.shards) (empty : outbox w h ≡ []) where
   sent_here : (t : To) (x : ℕ) → x ≡ sender g h → channels g (with_outbox w h os) lost t x ≡ send (channels g w lost) (sender g h) os t x
   sent_here t x e =

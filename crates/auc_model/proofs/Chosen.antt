@@ -1,4 +1,4 @@
--- Where the hub has counted every person, the holders' arcs are an assignment of the problem.
+-- If the hub has counted every person, the holders' arcs are an assignment of the problem.
 use Rattle.std.proofs.Common.{ℕ, ℤ, zero, suc, ◌+◌, ◌<◌, ◌≤◌, ◌≡◌, ◌≢◌, refl, arith, true, false, List, [], ◌∷◌, Option, Some, length, get_or, map, Contains, All, inl, inr, ap, sym, ◌∙◌, subst}
 use Rattle.std.specs.Prelude.{filter, nat_eq, ◌==◌}
 use Rattle.std.proofs.lemmas.Option.{slice_get-get_or}
@@ -22,7 +22,7 @@ use Rattle.auc_model.proofs.Theorems.{everyone_holds, holders_slack}
 some_same : {a b : Held} → ◌≡◌ {A = Option Held} (Some a) (Some b) → a ≡ b
 some_same {a} {b} e = ap (λ (o : Option Held). from_some a o) e
 
--- an arc of a person's row stands at its place in the list
+-- an arc of a person's row is at its place of the list
 unfoldable pub Found : ℕ → RowArc → ℕ → List Arc → Type 0
 Found i a n arcs = (k : ℕ) × (k < length arcs) × (a.arc ≡ n + k) × ((d : Arc) → get_or arcs k d ≡ record { cost = a.cost; person = i; object = a.object })
 

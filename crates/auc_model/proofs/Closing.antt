@@ -1,5 +1,4 @@
--- Boxes that are open, and channels where a box closes: a letter is lost at a closed box alone, and a box never opens
--- again.
+-- Open boxes, and channels after a box closes: letters are lost only at closed boxes, and a box never opens again.
 use Rattle.std.proofs.Common.{ℕ, ◌*◌, ◌≡◌, refl, Bool, true, false, List, length, ap, sym, ◌∙◌, inl, inr}
 use Rattle.std.specs.Prelude.{◌==◌, ◌&&◌}
 use Rattle.std.proofs.lemmas.Bool.{cases_Bool}
@@ -70,7 +69,7 @@ channels_close g w lost name b = same_channels (channels g (with_mail_named w na
     at MailName.Hub (To.Object r) x = refl
     at MailName.Hub To.Hub x = refl
 
--- letters stay lost at closed boxes alone
+-- letters are still lost only at closed boxes
 pub open_by : (w v : World) (lost : Lost) → ((t : To) → opens v t ≡ true → opens w t ≡ true) → Open w lost → Open v lost
 open_by w v lost h o t x e = o t x (h t e)
 
@@ -95,7 +94,7 @@ module _ (g : Phase) where
         whole = e.lanes ∙ (s.whole ∙ sym (ap (λ (k : ℕ). k * n.senders) e.boxes ∙ ap (λ (k : ℕ). length m.accepting * k) e.senders));
       }
 
-  -- how many boxes a mail has
+  -- the number of boxes of a mail
   abbrev pub boxes_of : To → ℕ
   boxes_of (To.Person s) = g.shards
   boxes_of (To.Object q) = g.shards

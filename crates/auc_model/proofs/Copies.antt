@@ -58,7 +58,7 @@ module _ (g : Phase) (w : World) (s j : ℕ) where
   same : (v u : World) → v ≡ u → u.copy ≡ w.copy → w.copy s j ≤ℤ v.copy s j
   same v u e f = stays v (ap (λ (x : World). x.copy) e ∙ f)
 
-  -- a letter that is heard sets the copy to its price, which is no less
+  -- a letter that is taken sets the copy to its price, which is no less
   copy_hears : (r : ℕ) (l : Letter) (m : Mail Letter) → Rises w r l → w.copy s j ≤ℤ (after_letter (record w { persons_mail = m }) r l).copy s j
   copy_hears r (Letter.Award i k p) m low = rises r k p low
   copy_hears r (Letter.Refused i k p) m low = rises r k p low

@@ -46,7 +46,7 @@ less g f c t x hs l ls e h b =
     let r = sum_by-cons f l ls in
     omega (arith, a, s, p, q, r)
 
--- read the other way round: the old channels have the letter more
+-- read backwards: the old channels have one more letter
 pub plus_gone : (g : Phase) (c : Channels) (t : To) (x : ℕ) (hs : List Letter) (l : Letter) (ls : List Letter) → c t x ≡ hs ++ l ∷ ls → x < senders g → IsBox g t → Plus g l (set_channel c t x (hs ++ ls)) c
 plus_gone g c t x hs l ls e h b =
     record {
@@ -116,7 +116,7 @@ module _ (g : Phase) (w v : World) (c d : Channels) (counts : Counts g w c) wher
       let sh : held_objects g v ≡ held_objects g w = ap (λ (f : ℕ → Option Held). total (λ k. held_one (f k)) g.objects) h in
       record { who_waits = omega (arith, counts.who_waits, e, x, fx, sx); who_holds = omega (arith, counts.who_holds, e, y, fy, sy, sh); who_told = omega (arith, counts.who_told, e, n, sh) }
 
-  -- an answer is heard
+  -- an answer is taken
   pub counts_hear : v.count ≡ w.count → v.holder ≡ w.holder → (l : Letter) (a : Answer) (i j : ℕ) (p : ℤ) → told_answer l ≡ Some (a, i, j, p) → i < g.persons → Allows (w.state i) a j → v.state ≡ put w.state i (heard a j)
       → Plus g l d c → Counts g v d
   counts_hear n h l a i j p is low fits s e = by_letter l is e

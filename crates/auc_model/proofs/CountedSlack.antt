@@ -1,5 +1,5 @@
--- The holders' arcs are slack-right at the true prices, in the words of the problem, and so they cost least at eps 1;
--- and what such an assignment leaves is held by nobody.
+-- The holders' arcs satisfy epsilon-complementary slackness at the true prices, in the terms of the problem. So they
+-- cost least at eps 1, and an object that such an assignment leaves has no holder.
 use Rattle.std.proofs.Common.{ℕ, ℤ, pos, zero, suc, ◌+◌, ◌<◌, ◌≡◌, true, refl, arith, List, [], ◌∷◌, length, get_or, map, Option, Some, None, Contains, All, sym, ap, subst, ◌∙◌, inl, inr}
 use Rattle.std.specs.Prelude.{filter, ◌==◌, ◌+ℤ◌, ◌*ℤ◌, ◌≤ℤ◌}
 use Rattle.std.specs.List.{slice_get, enumerate_from}
@@ -24,7 +24,7 @@ use Rattle.auc_model.proofs.Chosen.{Found, row_arc_listed}
 use Rattle.auc_model.proofs.Reached.{kept_reached}
 use Rattle.auc_model.proofs.Theorems.{holders_slack, of_every_schedule}
 
--- an arc of a person stands in his row
+-- an arc of a person is in the person's row
 in_row : (i n : ℕ) (arcs : List Arc) (b : Arc) (k : ℕ) → k < length arcs → get_or arcs k b ≡ b → b.person ≡ i → Contains (map row_arc (filter (is_of i) (enumerate_from n arcs))) (row_arc (n + k, b))
 in_row i n [] b k lt e his = absurd (omega arith)
 in_row i n (x ∷ xs) b zero lt e his =

@@ -95,7 +95,7 @@ module _ (g : Phase) (w : World) where
       same_amount (scale g) g.spread g.eps (w.copy s) (g.row i) a b x.best y.best m n x.amount_is y.amount_is,
     )
 
-    -- a person who bids isn't one who can't
+    -- a person that bids isn't one that can't
     stops_not : (i : ℕ) (y : Why) (a : RowArc) (m : ℤ) → Stops g w s i y → w.bids_left s ≢ 0 → Bids g w s i a m → m ≤ℤ pos (2 ^ 61) → ⊥
     stops_not i Why.Bids a m h left b low = left h
     stops_not i Why.Stuck a m h left b low = no_row i a h.1 b.best.listed

@@ -1,5 +1,5 @@
--- How a turn may move the end and the hub's count: the first cause sets the end, it then stays, and it is All only
--- where every person was counted.
+-- The effect of a turn on the end and on the hub's count: the first cause sets the end, which then stays. It is All
+-- only if every person was counted.
 use Rattle.std.proofs.Common.{ℕ, ◌+◌, ◌<◌, ◌≡◌, ◌≢◌, refl, arith, true, false, List, [], ◌∷◌, Option, Some, None, inl, inr, ap, sym, ◌∙◌}
 use Rattle.std.specs.Prelude.{if◌then◌else◌, ◌==◌, nat_lt}
 use Rattle.std.proofs.lemmas.Bool.{cond_both, eqb-true, eq-eqb, cases_Bool, cases_lt}
@@ -118,7 +118,7 @@ pub end_schedule : (g : Phase) (w : World) (ts : List Turn) (v : World) (d : End
 end_schedule g w [] v d e h = ap (λ (x : World). x.end) e ∙ h
 end_schedule g w (t ∷ ts) v d run h = end_schedule g run.0 ts v d run.3 (end_move_stays g w run.0 d h (turn_end g w t run.1 run.0 run.2))
 
--- the end is All only where every person was counted
+-- the end is All only if every person was counted
 abbrev pub AllCounted : Phase → World → Type 0
 AllCounted g w = w.end ≡ Some End.All → w.count ≡ g.persons
 
@@ -139,7 +139,7 @@ pub all_schedule : (g : Phase) (w : World) (ts : List Turn) (v : World) → Sche
 all_schedule g w [] v e h all = ap (λ (x : World). x.count) e ∙ h (sym (ap (λ (x : World). x.end) e) ∙ all)
 all_schedule g w (t ∷ ts) v run h all = all_schedule g run.0 ts v run.3 (all_counted_move g w run.0 (turn_end g w t run.1 run.0 run.2) h) all
 
--- where every person was counted, the end is set
+-- if every person was counted, the end is set
 abbrev pub EndsCounted : Phase → World → Type 0
 EndsCounted g w = w.count ≡ g.persons → w.end ≢ None
 

@@ -1,5 +1,5 @@
--- Where the hub has counted every person, every person holds an object; and where nothing is under way and nobody is
--- free, it has counted every person.
+-- If the hub has counted every person, every person holds an object. If nothing is under way and no person is free, it
+-- has counted every person.
 use Rattle.std.proofs.Common.{ℕ, zero, suc, ◌+◌, ◌%◌, ◌<◌, ◌≤◌, ◌≡◌, refl, arith, Bool, true, false, List, [], ◌∷◌, Some, None, length, filter_map, sum_by, ap, sym, ◌∙◌}
 use Rattle.std.specs.Prelude.{if◌then◌else◌, ◌==◌, ◌&&◌}
 use Rattle.std.specs.List.{cons_option}
@@ -56,7 +56,7 @@ awards_seen i j (Letter.Price y p ∷ xs) e f = awards_seen i j xs (let s = sum_
 awards_seen i j (Letter.First y ∷ xs) e f = awards_seen i j xs (let s = sum_by-cons refused_one (Letter.First y) xs in omega (arith, s)) (let s = sum_by-cons outbid_one (Letter.First y) xs in omega (arith, s))
 awards_seen i j (Letter.Stop y ∷ xs) e f = awards_seen i j xs (let s = sum_by-cons refused_one (Letter.Stop y) xs in omega (arith, s)) (let s = sum_by-cons outbid_one (Letter.Stop y) xs in omega (arith, s))
 
--- who waits or holds, with no bid, refusal or outbid under way, holds at the object's side
+-- a person that waits or holds, with no bid, refusal or outbid under way, is the holder on the object's side
 settled_holding : (xs : List Answer) (h : Bool) → AllAwards xs → Agree Holding xs (pair_known h 0) → h ≡ true
 settled_holding xs true p a = refl
 settled_holding [] false p a = absurd (cc (a.same))
@@ -68,7 +68,7 @@ settled_waiting [] false p a = absurd (cc (a.same))
 settled_waiting (x ∷ xs) false p a = settled_holding xs false p.1 (record { same = (rw p.0 at a.same); right = a.right })
 
 module _ (g : Phase) (w : World) (c : Channels) (law : Lawful g) (inv : Inv g w c) where
-  -- Where the hub has counted every person, every person holds an object
+  -- if the hub has counted every person, every person holds an object
   module _ (all : w.count ≡ g.persons) (i : ℕ) (known : i < g.persons) where
     busy_here : waits_one (w.state i) + holds_one (w.state i) ≡ 1
     busy_here =
@@ -106,7 +106,7 @@ module _ (g : Phase) (w : World) (c : Channels) (law : Lawful g) (inv : Inv g w 
   total_ones f zero e = refl
   total_ones f (suc n) e = let a = total_ones f n (λ k l. e k (omega arith)) in let b = e n (omega arith) in omega (arith, a, b)
 
-  -- where no letter is under way and no shard has a free person, the hub has counted every person
+  -- if no letter is under way and no shard has a free person, the hub has counted every person
   pub all_counted : ((s : ℕ) → s < g.shards → w.idle s ≡ []) → ((t : To) (x : ℕ) → c t x ≡ []) → w.count ≡ g.persons
   all_counted idle none =
       let t = total_add (λ k. waits_one (w.state k)) (λ k. holds_one (w.state k)) g.persons in

@@ -1,4 +1,4 @@
--- The lists of free persons: each free person stands once in that of his shard.
+-- The lists of free persons: each free person is once in that of its shard.
 use Rattle.std.proofs.Common.{ℕ, suc, ◌%◌, ◌<◌, ◌≡◌, ◌≢◌, refl, arith, true, false, List, [], ◌∷◌, ◌++◌, inl, inr, sym, ◌∙◌}
 use Rattle.std.specs.Prelude.{if◌then◌else◌, ◌==◌}
 use Rattle.std.proofs.lemmas.Bool.{cases_eq, eq-eqb}
@@ -12,7 +12,7 @@ use Rattle.auc_model.specs.Start.{free_in, occurs}
 use Rattle.auc_model.specs.World.{Phase}
 use Rattle.auc_model.proofs.Places.{put_at, put_off}
 
--- the free persons when one of the shard has heard an answer
+-- the free persons after one of the shard has taken an answer
 abbrev pub freed : Answer → ℕ → List ℕ → List ℕ
 freed Award i xs = xs
 freed Refused i xs = xs ++ i ∷ []
@@ -27,7 +27,7 @@ is_free-true Free e = refl
 is_free-true (Waits j) e = cc
 is_free-true (Holds j) e = cc
 
--- who stands in the list of a shard is a free person of it
+-- an entry of the list of a shard is a free person of it
 pub idle_facts : (g : Phase) (t : PersonState) (s i n : ℕ) → suc n ≡ free_in g t s i → (t ≡ Free) × (i % g.shards ≡ s) × (i < g.persons) × (n ≡ 0)
 idle_facts g t s i n e = (is_free-true t parts.0, parts.1, parts.2, parts.3)
   where
@@ -73,7 +73,7 @@ module _ (g : Phase) (state : ℕ → PersonState) (idle : ℕ → List ℕ) (al
         other_else : (t k : ℕ) → k ≢ i → t ≢ s → occurs k (put idle s rest t) ≡ free_in g (put state i (Waits j) k) t k
         other_else t k e f = rw (put_off idle s rest t f, put_off state i (Waits j) k e) (all t k)
 
-  -- one hears an answer
+  -- one takes an answer
   module _ (s i j : ℕ) (a : Answer) (busy : is_free (state i) ≡ false) (his : i % g.shards ≡ s) (in_range : i < g.persons) where
     none_yet : (t : ℕ) → occurs i (idle t) ≡ 0
     none_yet t = all t i ∙ free_in_busy g (state i) t i busy

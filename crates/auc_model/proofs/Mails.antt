@@ -1,4 +1,4 @@
--- What a lane that is set, and a box that is closed, leave of a mail.
+-- A mail after a lane is set, and after a box is closed.
 use Rattle.std.proofs.Common.{ℕ, ◌+◌, ◌*◌, ◌<◌, ◌≡◌, refl, arith, Bool, false, List, [], ◌∷◌, length, get_or, sum_by, inl, inr, ap, sym, ◌∙◌}
 use Rattle.std.specs.Prelude.{if◌then◌else◌, ◌==◌, ◌&&◌}
 use Rattle.std.proofs.lemmas.Bool.{cases_eq, cases_lt}
@@ -16,7 +16,7 @@ at_both c b t s x y e f = grind (arith, nat_tests)
 off_both : {X : Type 0} (c b t s : ℕ) (x y : X) → ((c ≡ b) × (t ≡ s) → ⊥) → (if (c == b) && (t == s) then x else y) ≡ y
 off_both c b t s x y n = grind (arith, nat_tests)
 
--- what waits in the lane of a sender, and of nobody
+-- the letters in the lane of a sender, and of a number that is no sender
 pub waiting_there : {T : Type 0} (m : Mail T) (b x : ℕ) → x < m.senders → waiting m b x ≡ (lane_of m b x).waiting
 waiting_there m b x h = grind (arith, nat_tests)
 
@@ -34,7 +34,7 @@ module _ {T : Type 0} (m : Mail T) (b s : ℕ) (l : Lane T) (whole : IsWhole m) 
         | inr k ↦ waiting_nobody (with_lane m b s l) c t (λ p. omega (arith, k)) ∙ sym (waiting_nobody m c t (λ p. omega (arith, k)))
       ]
 
-  -- what waits after a lane is set
+  -- the letters that wait after a lane is set
   pub waiting-set : (c t : ℕ) → waiting (with_lane m b s l) c t ≡ (if (c == b) && (t == s) then l.waiting else waiting m c t)
   waiting-set c t =
       elim (cases_eq c b) [
@@ -45,7 +45,7 @@ module _ {T : Type 0} (m : Mail T) (b s : ℕ) (l : Lane T) (whole : IsWhole m) 
         | inr e ↦ set_off c t (λ p. e p.0) ∙ sym (off_both c b t s l.waiting (waiting m c t) (λ p. e p.0))
       ]
 
-  -- what the waiting letters weigh then
+  -- the weight of the waiting letters then
   pub weight-set : (f : T → ℕ) → weight f (with_lane m b s l) + sum_by f (waiting m b s) ≡ weight f m + sum_by f l.waiting
   weight-set f =
       let e = sum_by-set (λ (x : Lane T). sum_by f x.waiting) m.lanes (b * m.senders + s) l blank_lane (lane_there m b s whole h) in

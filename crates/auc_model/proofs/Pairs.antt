@@ -1,4 +1,4 @@
--- What each pair of a person, or of a shard of the persons, and an object sees of one letter more, or one less.
+-- One more letter, or one less, as each pair sees it: a person, or a person shard, with an object.
 use Rattle.std.proofs.Common.{ℕ, ℤ, suc, ◌+◌, ◌%◌, ◌≡◌, refl, arith, false, List, [], ◌∷◌, ◌++◌, Some, None, filter_map, length, length-append, ◌⊎◌, inl, inr, ap, sym, ◌∙◌}
 use Rattle.std.specs.Prelude.{if◌then◌else◌, ◌==◌}
 use Rattle.std.proofs.lemmas.Bool.{cases_eq, eq-eqb, ne_eqb}

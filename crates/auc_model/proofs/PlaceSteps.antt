@@ -1,4 +1,4 @@
--- How the places of persons go on where a letter is sent, taken or dropped.
+-- The state of the pairs after a letter is sent, taken or dropped.
 use Rattle.std.proofs.Common.{ℕ, ℤ, ◌+◌, ◌%◌, ◌≡◌, refl, arith, List, [], ◌∷◌, ◌++◌, Option, Some, None, filter_map, length, ap, ◌∙◌}
 use Rattle.std.proofs.lemmas.Bool.Decides.{nat_tests}
 use Rattle.auc_letters.specs.declared.letter.Letter.{Letter}

@@ -1,4 +1,4 @@
--- How each person stands to each object: what keeps it.
+-- The state of each pair of a person and an object, and what keeps it.
 use Rattle.std.proofs.Common.{ℕ, suc, ◌+◌, ◌≡◌, ◌≢◌, refl, arith, Bool, true, false, List, [], ◌∷◌, ◌++◌, Some, None, ap, sym, ◌∙◌, inl, inr}
 use Rattle.std.proofs.lemmas.Bool.{cases_eq}
 use Rattle.auc_letters.specs.declared.state.PersonState.{PersonState}
@@ -193,7 +193,7 @@ keeps_hear w i j a xs o p k l =
       | inr e ↦ hear_other_person w i j a xs k l e (p k l)
     ]
 
--- a person who holds an object stands to no other object at all
+-- a person who holds an object is free towards no other object
 holder_not_unassigned : (s : PersonState) (j : ℕ) (xs : List Answer) (b : ℕ) → Agree (pair_state s j) xs (pair_known true b) → pair_state s j ≢ Unassigned
 holder_not_unassigned s j xs b p e = grind (arith, replay-Unassigned xs (pair_known true b) (rw e at p.same) p.right, p.same, p.right)
 

@@ -1,4 +1,4 @@
--- How the prices about objects go on where a letter is sent, taken or dropped.
+-- The prices of objects after a letter is sent, taken or dropped.
 use Rattle.std.proofs.Common.{ℕ, ℤ, ◌≤ℤ◌, ◌+◌, ◌%◌, ◌≡◌, refl, List, [], ◌∷◌, ◌++◌, Some, None, filter_map, ap}
 use Rattle.auc_letters.specs.declared.letter.Letter.{Letter}
 use Rattle.auc_letters.specs.declared.out.Out.{Out}
@@ -54,7 +54,7 @@ module _ (g : Phase) (w v : World) (c : Channels) where
       (λ k. refl) (λ r k. refl) (news_dropped g c hs l ls s j p e h)
       (keeps_lose (prices g w c) s j (filter_map (price_about j) hs) p (filter_map (price_about j) ls) (news_middle g c hs l ls s j p e h) q)
 
-  -- the price of the first letter on its way is no less than the copy
+  -- the price of the first letter under way is no less than the copy
   pub learns_no_less : (l : Letter) (ls : List Letter) (s j : ℕ) (p : ℤ) → told_price l ≡ Some (j, p) → c (To.Person s) (g.shards + j % g.shards) ≡ l ∷ ls
       → NeverFalls (prices g w c) → w.copy s j ≤ℤ p
   learns_no_less l ls s j p e h q = no_fell (prices g w c) s j p (filter_map (price_about j) ls) (news_head g c l ls s j p e h) q

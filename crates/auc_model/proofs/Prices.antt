@@ -1,4 +1,4 @@
--- Prices on their way: what keeps their order.
+-- Prices under way, and what keeps their order.
 use Rattle.std.proofs.Common.{ℕ, ℤ, ◌≤ℤ◌, ◌≡◌, ◌≢◌, arith, List, [], ◌∷◌, ◌++◌, inl, inr}
 use Rattle.std.proofs.lemmas.Bool.{cases_eq}
 use Rattle.std.proofs.lemmas.Int.{ints}
@@ -74,7 +74,7 @@ keeps_learn w s j p ps n r t k =
       | inr e ↦ learn_other w s j p ps t k (λ q. e q.0) (r t k)
     ]
 
--- the first price on its way is no less than the copy
+-- the first price under way is no less than the copy
 pub no_fell : (w : Prices) (s j : ℕ) (p : ℤ) (ps : List ℤ) → w.news s j ≡ p ∷ ps → NeverFalls w → w.copy s j ≤ℤ p
 no_fell w s j p ps n r = (rw n at (r s j)).0
 

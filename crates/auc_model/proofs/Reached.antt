@@ -1,4 +1,4 @@
--- What the invariants say of a world that is reached: of its end, of the letters that come next, and of room for them.
+-- What the invariants prove of a reachable world: its end, the letters that come next, and room for them.
 use Rattle.std.proofs.Common.{ℕ, ◌≡◌, refl, true, List, [], ◌∷◌, ◌++◌, inl, inr, ap, sym, ◌∙◌}
 use Rattle.std.proofs.lemmas.Bool.{cases_Bool}
 use Rattle.auc_letters.specs.declared.letter.Letter.{Letter}
@@ -42,7 +42,7 @@ reached_turn g w v t y r h = reached_on g w v (t ∷ []) r (one_more g w v t y h
 pub kept_reached : (g : Phase) (v : World) → Reached g v → Kept g v
 kept_reached g v r = kept_schedule g r.start r.turns v r.lawful r.leads (kept_start g r.start r.starts)
 
--- a mail has its nodes for good
+-- the number of nodes of a mail never changes
 one_nodes : (w v : World) (name : MailName) → StepsIn w v name → (mail_named v name).nodes ≡ (mail_named w name).nodes
 one_nodes w v name s = elim s.this [ inl e ↦ ap (λ (z : Mail Letter). z.nodes) e | inr h ↦ (step_shape (mail_named w name) (mail_named v name) h.0 h.1 h.2).nodes ]
 
@@ -88,7 +88,7 @@ module _ (g : Phase) (v : World) (law : Lawful g) (k : Kept g v) where
   rises s x (Letter.First j) ls e = absurd (letter_fits g v under_way law k.inv s x (Letter.First j) ls e)
   rises s x (Letter.Stop y) ls e = absurd (letter_fits g v under_way law k.inv s x (Letter.Stop y) ls e)
 
-  -- what a shard of the persons takes fits it, and tells no price below its copy
+  -- a letter that a person shard takes fits it, and has no price below its copy
   pub hears_well : (s x n : ℕ) (l : Letter) (m : Mail Letter) → Takes v.persons_mail s x n l m → FitsLetter g v s l × Rises v s l
   hears_well s x n l m p =
       let ls = left_behind g v k.lost (To.Person s) x n l m (whole_of g v k.shapes (To.Person s)) p in

@@ -1,4 +1,4 @@
--- Where no bid, post or take moves anything, nothing can move.
+-- If no bid, post or take changes anything, nothing can move.
 use Rattle.std.proofs.Common.{ℕ, ◌<◌, ◌≤◌, ◌≡◌, ◌≢◌, arith, true, List, [], None, ◌⊎◌, inl, inr}
 use Rattle.auc_letters.specs.declared.letter.Letter.{Letter}
 use Rattle.auc_mail.specs.Mail.{HasBox, Mail, NothingWaits}

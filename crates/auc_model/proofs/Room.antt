@@ -61,7 +61,7 @@ module _ (g : Phase) (w : World) (law : Lawful g) (k : Kept g w) (room : Room g 
   head_reserve (PersonShard s) o rest e = reserve_of g o rest (w.person_out s) e (room.person_reserves s)
   head_reserve (ObjectShard q) o rest e = reserve_of g o rest (w.object_out q) e (room.object_reserves q)
 
-  -- a letter leaves an outbox: it is no stop, or one stop less stands there
+  -- a letter leaves an outbox: it is no Stop, or the outbox has one Stop less
   less_stops : (s : ℕ) (o : Out) (rest : List Out) → s < g.shards → w.person_out s ≡ o ∷ rest → total (λ x. sum_by (λ o. stop_one o.letter) (put w.person_out s rest x)) g.shards + stop_one o.letter ≡ stops_out g w
   less_stops s o rest l e =
       let a = total_put (λ (os : List Out). sum_by (λ o. stop_one o.letter) os) w.person_out s rest g.shards l in

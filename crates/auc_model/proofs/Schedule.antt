@@ -108,7 +108,7 @@ module _ (g : Phase) (w : World) (law : Lawful g) (k : Kept g w) where
   abbrev c : Channels
   c = channels g w k.lost
 
-  -- from one way of writing the new channels to the other
+  -- from one form of the new channels to the other
   kept_by : (v : World) → Shapes g v → (lost : Lost) (d : Channels) → Open v lost → channels g v lost ≡ d → Inv g v d → Kept g v
   kept_by v shapes lost d o e inv = record { shapes = shapes; lost = lost; only_closed = o; inv = subst (λ (x : Channels). Inv g v x) (sym e) inv }
 
@@ -199,7 +199,7 @@ module _ (g : Phase) (w : World) (law : Lawful g) (k : Kept g w) where
       (channels_other g w u k.lost refl refl refl refl refl)
       (inv_same g w u c (same_ended (reason y)) refl (sound_ended g w.end (reason y) (sound_reason y) k.inv.sound) k.inv))
 
-  -- a take from one of the mails: where its letters come to stand
+  -- a take from one of the mails, and the place of its letters
   taken_open : (t : To) (x n : ℕ) (l : Letter) (m : Mail Letter) → Takes (mail_of w t) (box_of t) x n l m → Open (with_mail w t m) k.lost
   taken_open t x n l m p =
       open_by w (with_mail w t m) k.lost (λ u z. sym (opens_set w t x (record { taken = n; waiting = p.3.0 }) u) ∙ (rw p.3.2 at z)) k.only_closed
@@ -285,7 +285,7 @@ module _ (g : Phase) (w : World) (law : Lawful g) (k : Kept g w) where
         ∙ (channels_sent g b k.lost (ObjectShard q) outs h1 h2 ∙ ap (λ (d : Channels). send d (g.shards + q) outs) (channels_taken g w k.lost (To.Object q) x n l m (whole_of g w k.shapes (To.Object q)) t)))
         inv
 
-  -- an accepted bid, by who holds the object so far
+  -- an accepted bid, by the holder of the object before it
   module _ (q x n i a j : ℕ) (amount : ℤ) (m : Mail Letter) (h1 : q < g.shards) (h2 : w.object_out q ≡ []) (t : Takes w.objects_mail q x n (Letter.Bid i a j amount) m) (enough : least_amount (w.price j) g.eps ≤ℤ amount) where
     abbrev ls : List Letter
     ls = bids_left_behind q x n (Letter.Bid i a j amount) m h1 h2 t

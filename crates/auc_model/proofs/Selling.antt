@@ -17,7 +17,7 @@ use Rattle.auc_model.specs.World.{Phase, World, ended}
 use Rattle.auc_model.specs.declared.turn.TurnReply.{TurnReply}
 use Rattle.auc_model.proofs.Places.{put_self}
 
--- the mail goes on to m, j is sold to the holder at that price, and the letters go into the empty outbox of the shard q
+-- the mail becomes m, j is sold to the holder at that price, and the letters go into the empty outbox of the shard q
 abbrev pub sold : World → ℕ → Mail Letter → ℕ → ℤ → Held → List Out → World
 sold w q m j price holder letters = record w {
   objects_mail = m;

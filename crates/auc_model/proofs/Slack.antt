@@ -1,4 +1,4 @@
--- Slackness under rising prices, and of a bid by the rule.
+-- Epsilon-complementary slackness of an arc while prices rise, and of a bid by the rule.
 use Rattle.std.proofs.Common.{ℕ, ℤ, ◌+ℤ◌, ◌-ℤ◌, ◌≤ℤ◌, ◌<◌, ◌≡◌, ◌≢◌, refl, arith, List, [], ◌∷◌, ◌++◌, length, inl, inr, ap, ◌&&◌}
 use Rattle.std.specs.Prelude.{◌==◌, slice_index_or}
 use Rattle.std.proofs.lemmas.Bool.{cases_eq, cases_Bool, eq-eqb, ne_eqb}
@@ -39,7 +39,7 @@ pub each_map : {X : Type 0} (P Q : X → Type 0) → ((x : X) → P x → Q x) �
 each_map P Q f [] p = tt
 each_map P Q f (x ∷ xs) p = (f x p.0, each_map P Q f xs p.1)
 
--- where prices rise, what was slack-right stays so
+-- an arc still satisfies it where other prices rise
 pub slack_rises : (g : Phase) (p q : ℕ → ℤ) (i place j : ℕ) (amount : ℤ) → ((k : ℕ) → p k ≤ℤ q k) → SlackAt g p i place j amount → SlackAt g q i place j amount
 slack_rises g p q i place j amount rise f = record { arc = f.arc; listed = f.listed; leads = f.leads; stands = f.stands; slack = λ k d l. at (slice_index_or (g.row i) k d) (f.slack k d l) }
   where
@@ -53,7 +53,7 @@ slack_rises g p q i place j amount rise f = record { arc = f.arc; listed = f.lis
           | inr n ↦ (let x = a_at p in let y = a_at q in let z = put_off p j amount b.object n in let u = put_off q j amount b.object n in let r = rise b.object in omega (arith, ints, x, y, z, u, h, r))
         ]
 
--- a bid by the rule, at copies that are no higher than the prices, is slack-right
+-- a bid by the rule, at copies that are no higher than the prices, satisfies it
 pub slack_bid : (g : Phase) (q p : ℕ → ℤ) (i : ℕ) (a : RowArc) (amount : ℤ) → Lawful g → ((k : ℕ) → q k ≤ℤ p k) → IsBid (scale g) g.spread g.eps q (g.row i) a amount → SlackAt g p i a.arc a.object amount
 slack_bid g q p i a amount law low best = record { arc = a; listed = best.best.listed; leads = refl; stands = refl; slack = at }
   where

@@ -1,4 +1,4 @@
--- What one turn may change: nothing where it answers Nothing, and at most one mail, by one step.
+-- The most that one turn may change: nothing if it returns Nothing, and at most one mail, by one step.
 use Rattle.std.proofs.Common.{ℕ, ◌≡◌, ◌≢◌, refl, true, List, [], ◌∷◌, ◌++◌, inl, inr, sym, ◌∙◌}
 use Rattle.std.specs.Prelude.{nat_lt}
 use Rattle.std.proofs.lemmas.Bool.{cond_both}

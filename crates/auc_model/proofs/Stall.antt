@@ -1,4 +1,4 @@
--- Until the end is set, as many Stops are under way as shards have stopped. So where nothing can move, everybody was
+-- Until the end is set, as many Stops are under way as shards have stopped. So where nothing can move, every person was
 -- counted, and the end is set.
 use Rattle.std.proofs.Common.{ℕ, ℤ, ◌+◌, ◌<◌, ◌≡◌, refl, arith, Bool, true, List, [], ◌∷◌, ◌++◌, Option, Some, None, ap, sym, ◌∙◌}
 use Rattle.std.specs.Prelude.{nat_lt, if◌then◌else◌, ◌==◌}
@@ -47,7 +47,7 @@ use Rattle.auc_model.proofs.Channels.{ahead, left_behind, channel_full, channel_
 abbrev none_lost : Lost
 none_lost = λ t x. []
 
--- until the end is set: the stops under way
+-- until the end is set: the Stops under way
 abbrev pub StopsTold : Phase → World → Type 0
 StopsTold g w = w.end ≡ None → everywhere g stop_one (channels g w none_lost) ≡ stopped_shards g w
 
@@ -62,7 +62,7 @@ module _ (g : Phase) (w : World) (law : Lawful g) (k : Kept g w) (yet : OpenYet 
   abbrev c : Channels
   c = channels g w none_lost
 
-  -- from one way of writing the new channels to the other, where as many shards have stopped
+  -- from one form of the new channels to the other, where as many shards have stopped
   as_told : (v : World) (d : Channels) → w.end ≡ None → channels g v none_lost ≡ d → v.has_stopped ≡ w.has_stopped → everywhere g stop_one d ≡ everywhere g stop_one c → everywhere g stop_one (channels g v none_lost) ≡ stopped_shards g v
   as_told v d none e same sums =
       ap (everywhere g stop_one) e ∙ (sums ∙ (told none ∙ sym (ap (λ (f : ℕ → Bool). total (λ s. one_if (f s)) g.shards) same)))
@@ -177,7 +177,7 @@ module _ (g : Phase) (w : World) (law : Lawful g) (k : Kept g w) (yet : OpenYet 
       (channels_other g (with_mail w t m) u none_lost same.objects same.persons same.hub e4 e5 ∙ channels_taken g w none_lost t x n l m whole p) stops
       (gone t x [] l left (channel_taken g w none_lost t x n l m whole p) h b z)
 
-  -- whoever sent it is a sender of the mail
+  -- the sender of the letter is a sender of the mail
   taker : (t : To) (x n : ℕ) (l : Letter) (m : Mail Letter) → Takes (mail_of w t) (box_of t) x n l m → x < senders g
   taker t x n l m p = rw (shape_of g w k.shapes t).senders_are at p.1
 

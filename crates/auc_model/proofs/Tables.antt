@@ -43,6 +43,6 @@ occurs_range p i (suc n) a = elim (cases_Bool (p a)) [ inl t ↦ passes t (occur
     fails : p a ≡ false → occurs i (filter p (range_with_len (a + 1) n)) ≡ in_range_one p (a + 1) n i → occurs i (filter p (range_with_len a (suc n))) ≡ in_range_one p a (suc n) i
     fails f e = rw (f, e) (elim (cases_eq a i) [ inl h ↦ rw (← h) (grind (arith, nat_tests, f)) | inr h ↦ grind (arith, nat_tests, f) ])
 
--- each person of a shard stands once in the list of its persons, and nobody else does
+-- each person of a shard is once in the list of its persons, and no other person is
 pub occurs_persons : (g : Phase) (s i : ℕ) → occurs i (persons_of s g.shards g.persons) ≡ free_in g PersonState.Free s i
 occurs_persons g s i = occurs_range (λ k. (k % g.shards) == s) i g.persons 0 ∙ grind (arith, nat_tests)

@@ -274,7 +274,7 @@ module _ (g : Phase) (w : World) (c : Channels) (law : Lawful g) (inv : Inv g w 
       award_routed : Routed g (To.Person (i % g.shards)) (g.shards + q) (Letter.Award i j amount)
       award_routed = (bid_route.0, refl, bid_route.2, its_channel, bid_route.4)
 
-      -- nobody held it
+      -- the object had no holder
       abbrev first_out : Out
       first_out = record { to = To.Hub; letter = Letter.First j; reserve = 0 }
 

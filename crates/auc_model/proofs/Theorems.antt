@@ -37,7 +37,8 @@ of_every_schedule g v r =
       (λ j l a b e f same. held_once (places g v c) a.person j l (ap person_of e) (ap person_of f ∙ ap Some (sym same)) k.inv.in_place),
     )
 
--- every holder's arc is an arc of his to that object, and slack-right at the true prices
+-- every holder's arc is one of the person's to that object, and satisfies epsilon-complementary slackness at the true
+-- prices
 pub holders_slack : (g : Phase) (v : World) → Reached g v
     → (j : ℕ) (h : Held) → v.holder j ≡ Some h → (a : RowArc) × Contains (g.row h.person) a × (a.object ≡ j) × (a.arc ≡ h.arc) × SlackRight g v.price h.person a
 holders_slack g v r j h e =
@@ -68,6 +69,6 @@ everyone_holds g v r all i l =
 pub no_mail_stop : (g : Phase) (v : World) → Reached g v → UsualNodes g v → v.end ≢ Some (End.Stopped Why.Mail)
 no_mail_stop g v r usual = (room_reached g v r usual).no_mail
 
--- the world stops for want of an arc only where somebody has none
+-- the phase ends for want of an arc only if some person has none
 pub stuck_only : (g : Phase) (v : World) → Reached g v → v.end ≡ Some (End.Stopped Why.Stuck) → SomeoneStuck g
 stuck_only g v r e = rw e at ((kept_reached g v r).inv.sound)

@@ -1,4 +1,4 @@
--- What a bid, a Stop and a told price leave of the invariants.
+-- The invariants after a bid, a Stop and a price that is sent.
 use Rattle.std.proofs.Common.{ℕ, ℤ, pos, ◌≤ℤ◌, ◌*ℤ◌, negsuc, ◌+◌, ◌%◌, ◌<◌, ◌≡◌, refl, arith, List, [], ◌∷◌, inl, inr, ap, sym}
 use Rattle.std.proofs.lemmas.Int.{ints}
 use Rattle.auc_graph.specs.Bid.{IsBid, value}

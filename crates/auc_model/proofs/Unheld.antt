@@ -1,4 +1,4 @@
--- An object that nobody holds was held by nobody before, and has kept its price.
+-- An object without a holder had none before, and has kept its price.
 use Rattle.std.proofs.Common.{ℕ, ◌≡◌, refl, List, [], ◌∷◌, None, inl, inr, ap, sym, ◌∙◌}
 use Rattle.std.specs.Prelude.{nat_lt}
 use Rattle.std.proofs.lemmas.Bool.{cases_eq, cond_both}

@@ -93,7 +93,7 @@ module _ {Y : Type 0} (F : ℕ → ℕ → Letter → Option Y) (T : ℕ → ℕ
   abbrev pub seen : ℕ → ℕ → List Y
   seen k l = view (F k l) c (T k l) (X k l)
 
-  -- what is sent stands last on the channel of i and j, and on no other
+  -- a letter that is sent is last on the channel of i and j, and on no other
   pub pair_sent : (o : Out) (i j : ℕ) (y : ℕ) (a : Y) → T i j ≡ o.to → X i j ≡ y → F i j o.letter ≡ Some a
       → ((k l : ℕ) → ((k ≡ i) × (l ≡ j) → ⊥) → (F k l o.letter ≡ None) ⊎ (same_to (T k l) o.to ≡ false))
       → (k l : ℕ) → view (F k l) (send c y (o ∷ [])) (T k l) (X k l) ≡ put2 seen i j (seen i j ++ a ∷ []) k l
@@ -124,7 +124,7 @@ module _ {Y : Type 0} (F : ℕ → ℕ → Letter → Option Y) (T : ℕ → ℕ
             | inr h ↦ view-set_other (F k m) c (T i j) (X i j) ls (T k m) (X k m) h
           ])
 
-  -- a letter on the channel of i and j goes, from wherever it stands
+  -- a letter on the channel of i and j is removed, from any place
   pub pair_dropped : (i j : ℕ) (hs : List Letter) (l : Letter) (ls : List Letter) → c (T i j) (X i j) ≡ hs ++ l ∷ ls
       → ((k m : ℕ) → ((k ≡ i) × (m ≡ j) → ⊥) → (F k m l ≡ None) ⊎ (same_to (T k m) (T i j) ≡ false))
       → (k m : ℕ) → view (F k m) (set_channel c (T i j) (X i j) (hs ++ ls)) (T k m) (X k m) ≡ put2 seen i j (filter_map (F i j) hs ++ filter_map (F i j) ls) k m

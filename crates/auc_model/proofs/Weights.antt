@@ -1,4 +1,4 @@
--- How much the letters that wait weigh, against all that are under way; and that a bid and an answer find room.
+-- The weight of the letters that wait, beside that of all under way; and that a bid and an answer find room.
 use Rattle.std.proofs.Common.{ℕ, ◌+◌, ◌*◌, ◌<◌, ◌≤◌, ◌≡◌, refl, arith, List, [], ◌∷◌, ◌++◌, length, get_or, sum_by, ap, sym, ◌∙◌}
 use Rattle.std.proofs.lemmas.List.Sums.{sum_by-append, sum_by-cons}
 use Rattle.auc_letters.specs.declared.letter.Letter.{Letter}
@@ -63,7 +63,7 @@ module _ (g : Phase) (w : World) (lost : Lost) (inv : Inv g w (channels g w lost
       by (Shard.PersonShard s) l = omega arith
       by (Shard.ObjectShard q) l = omega arith
 
-  -- what waits weighs no more than what is under way
+  -- the letters that wait weigh no more than those under way
   pub front_le : (f : Letter → ℕ) (t : To) (x : ℕ) → sum_by f (waiting (mail_of w t) (box_of t) x) ≤ sum_by f (c t x)
   front_le f t x = let e = sum_by-append f (waiting (mail_of w t) (box_of t) x) (lost t x ++ letters_to t (out_of g w x)) in omega (arith, e)
 

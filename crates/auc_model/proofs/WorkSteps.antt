@@ -74,7 +74,7 @@ module _ (g : Phase) (w : World) where
   mail_posted (To.Object q) m s b r k x p = let a = weight_posted_le w.objects_mail m s b r k x waiting_work p in omega (arith, a)
   mail_posted To.Hub m s b r k x p = let a = weight_posted_le w.hub_mail m s b r k x waiting_work p in omega (arith, a)
 
-  -- what a shard of the persons hears, and what the hub counts, is no work
+  -- a letter that a person shard takes, or that the hub counts, makes no work
   pub heard : (s : ℕ) (l : Letter) → work g (after_letter w s l) ≡ work g w
   heard s (Letter.Award i j p) = refl
   heard s (Letter.Refused i j p) = refl
@@ -101,7 +101,7 @@ outbox_with_mail w (To.Object s) m (ObjectShard q) = refl
 outbox_with_mail w To.Hub m (PersonShard q) = refl
 outbox_with_mail w To.Hub m (ObjectShard q) = refl
 
--- whoever takes a letter has work after him
+-- a letter that is taken has work left
 pub some_work : (l : Letter) → 0 < waiting_work l
 some_work (Letter.Bid i a j p) = omega arith
 some_work (Letter.Award i j p) = omega arith

@@ -1,4 +1,4 @@
--- A worked run: one person bids on the one object there is, is told that he holds it, and the hub ends the phase.
+-- A worked run: one person bids on the only object and gets the award, and the hub ends the phase.
 use Rattle.std.proofs.Common.{ℕ, pos, zero, suc, ◌≤◌, ◌≤ℤ◌, ◌≡◌, refl, arith, List, [], ◌∷◌, Some, inr}
 use Rattle.std.specs.Prelude.{All}
 use Rattle.std.proofs.lemmas.Int.{ints}
@@ -33,7 +33,7 @@ of_one : (P : RowArc → Type 0) → P one_arc → All P (one_arc ∷ [])
 of_one P p zero d l = p
 of_one P p (suc k) d l = absurd (omega arith)
 
--- He has no arc to another object and the spread is 0, so that he bids eps.
+-- The person has no arc to another object and the spread is 0, so the bid is eps.
 bid_is : IsBid (pos 2) (pos 0) (pos 1) (λ j. pos 0) (one_arc ∷ []) one_arc (pos 1)
 bid_is = record {
   best = record {

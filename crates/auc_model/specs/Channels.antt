@@ -131,9 +131,11 @@ Routed g To.Hub x (Letter.Refused i j p) = ⊥
 Routed g To.Hub x (Letter.Outbid i j p) = ⊥
 Routed g To.Hub x (Letter.Price j p) = ⊥
 
+-- each element of a list has this property
 abbrev pub Each : {X : Type 0} → (X → Type 0) → List X → Type 0
 Each P [] = Unit {0}
 Each P (x ∷ xs) = P x × Each P xs
 
+-- each letter of each channel is on the right one
 abbrev pub AllRouted : Phase → Channels → Type 0
 AllRouted g c = (t : To) (x : ℕ) → Each (Routed g t x) (c t x)

@@ -18,6 +18,7 @@ pub data PairState : Type 0 where
   Holding : PairState
   Wrong : PairState
 
+-- the state of a pair after one answer; Wrong where the state doesn't allow it
 abbrev pub pair_after : PairState → Answer → PairState
 pair_after Waiting Award = Holding
 pair_after Waiting Refused = Unassigned
@@ -64,6 +65,7 @@ pub record Places : Type 0 where
   pub bids : ℕ → ℕ → ℕ
   pub answers : ℕ → ℕ → List Answer
 
+-- both sides agree about every pair of a person and an object
 abbrev pub InPlace : Places → Type 0
 InPlace w = (i j : ℕ) → Agree (pair_state (w.state i) j) (w.answers i j) (pair_known (is_held_by (w.holder j) i) (w.bids i j))
 

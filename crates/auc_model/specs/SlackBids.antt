@@ -18,6 +18,7 @@ pub record SlackAt (g : Phase) (p : ℕ → ℤ) (i place j : ℕ) (amount : ℤ
   pub stands : arc.arc ≡ place
   pub slack : SlackRight g (put p j amount) i arc
 
+-- if the letter is a bid, its arc satisfies epsilon-complementary slackness at its amount
 abbrev pub SlackLetter : Phase → (ℕ → ℤ) → Letter → Type 0
 SlackLetter g p (Letter.Bid i a j amount) = SlackAt g p i a j amount
 SlackLetter g p (Letter.Award i j q) = Unit {0}
@@ -27,8 +28,10 @@ SlackLetter g p (Letter.Price j q) = Unit {0}
 SlackLetter g p (Letter.First j) = Unit {0}
 SlackLetter g p (Letter.Stop y) = Unit {0}
 
+-- each letter under way has this property
 abbrev pub AllLetters : (Letter → Type 0) → Channels → Type 0
 AllLetters P c = (t : To) (x : ℕ) → Each P (c t x)
 
+-- each holder's arc satisfies epsilon-complementary slackness at the true prices
 abbrev pub SlackHolders : Phase → World → Type 0
 SlackHolders g w = (j : ℕ) (h : Held) → w.holder j ≡ Some h → SlackAt g w.price h.person h.arc j (w.price j)

@@ -57,5 +57,6 @@ abbrev pub first_end : Option End → End → Option End
 first_end None e = Some e
 first_end (Some d) e = Some d
 
+-- the world after a stop for this cause
 abbrev pub ended : World → Why → World
 ended w y = record w { end = first_end w.end (End.Stopped y) }

@@ -1,4 +1,4 @@
--- Chains of nodes: how often a node stands in one, what a changed link leaves, and how two are joined.
+-- Chains of nodes: the occurrences of a node, the effect of a changed link, and how two are joined.
 use Rattle.std.proofs.Common.{◌≡◌, ◌≢◌, ℕ, zero, suc, ◌+◌, ◌<◌, ◌≤◌, ◌==◌, Bool, true, false, cond, List, [], ◌∷◌, ◌++◌, length, get_or, refl, ap, ◌∙◌, arith}
 use Rattle.std.proofs.lemmas.List.Sums.{sum_by-cons, sum_by-append}
 use Rattle.std.proofs.lemmas.Bool.Decides.{nat_tests}
@@ -36,7 +36,7 @@ pub length-chain : (links : List ℕ) (at n : ℕ) → length (chain links at n)
 length-chain links at zero = refl
 length-chain links at (suc n) = ap suc (length-chain links (get_or links at 0) n)
 
--- the last node of a list stands in it
+-- the last node of a list occurs in it
 pub last_in : (i : ℕ) (c : List ℕ) (w : ℕ) → EndsWith (i ∷ c) w → 0 < times w (i ∷ c)
 last_in i [] w e = omega (arith, times-cons w i [], one_at_same w i e)
 last_in i (j ∷ c) w e = omega (arith, times-cons w i (j ∷ c), last_in j c w e)

@@ -1,4 +1,4 @@
--- What one changed link makes of two lists of nodes.
+-- Two lists of nodes after one link has changed.
 use Rattle.std.proofs.Common.{◌≡◌, ◌≢◌, ℕ, zero, suc, ◌+◌, ◌<◌, ◌≤◌, ◌==◌, Bool, true, false, if◌then◌else◌, List, [], ◌++◌, length, get_or, set, refl, ap, sym, ◌∙◌, subst, arith, length-set}
 use Rattle.std.proofs.lemmas.List.{append-nil, get_or-set_same, get_or-set_other}
 use Rattle.auc_nodes.specs.Links.{behind, chain, nodes_from, single, times, EndsWith, CanJoin, IsJoined}

@@ -1,4 +1,4 @@
--- What the links of a pool say of its lists.
+-- The lists that the links of a pool stand for.
 use Rattle.std.proofs.Common.{◌≡◌, ◌≢◌, ℕ, zero, suc, ◌+◌, ◌-◌, ◌<◌, ◌≤◌, List, [], ◌∷◌, length, get_or, refl, ap, subst, ⊎_elim, arith}
 use Rattle.std.proofs.lemmas.List.{length-map, get_or-map}
 use Rattle.std.proofs.lemmas.List.Sums.{get_or-le-sum_by}
@@ -33,7 +33,7 @@ module _ {links : List ℕ} {ends : List Ends} (linked : IsLinked links ends) wh
   at_most_once : (i : ℕ) → times_in i (chains links ends) ≤ 1
   at_most_once i = ⊎_elim (λ (lt : i < length links). omega (arith, linked.once i lt)) (λ (le : length links ≤ i). omega (arith, linked.none i le)) (cases_lt i (length links))
 
-  -- no node stands in two lists, or twice in one
+  -- no node is in two lists, or twice in one
   pub apart : (a b i : ℕ) → a ≢ b → a < length ends → b < length ends
       → times i (nodes_from links (end_of ends a)) + times i (nodes_from links (end_of ends b)) ≤ 1
   apart a b i ne la lb =

@@ -1,4 +1,4 @@
--- The ends of a pool's lists stand after those of its free nodes.
+-- The ends of a pool's lists come after those of its free nodes.
 use Rattle.std.proofs.Common.{◌≡◌, ℕ, suc, ◌+◌, ◌<◌, List, ◌∷◌, length, get_or, set, ap, sym, ◌∙◌, arith}
 use Rattle.std.proofs.lemmas.List.{get_or_default}
 use Rattle.auc_nodes.specs.Links.{end_of, no_ends}

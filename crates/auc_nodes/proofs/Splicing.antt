@@ -60,7 +60,7 @@ module _ {links : List ℕ} {ends : List Ends} (linked : IsLinked links ends) (a
     one : List ℕ
     one = nodes_from links (single (end_of ends a).first)
 
-    -- its first node stands in it alone
+    -- its first node is in no other list
     pub first_apart : times (end_of ends a).first (nodes_from links (end_of ends b)) ≡ 0
     first_apart =
         let i = (end_of ends a).first in

@@ -1,4 +1,4 @@
--- What each call makes of a pool's parts.
+-- The parts of a pool after each call.
 use Rattle.std.proofs.Common.{◌≡◌, ◌≢◌, ℕ, ◌+◌, ◌-◌, ◌^◌, ◌<◌, List, [], ◌∷◌, ◌++◌, length, get_or, set, map, drop, refl, ap, sym, ◌∙◌, arith}
 use Rattle.std.proofs.lemmas.List.{length-map, map-set, map-append, get_or-map, get_or-set_same, get_or_read, set-get_or}
 use Rattle.auc_nodes.specs.Links.{end_of, no_ends, links_of, items_of, nodes_from, single, times, EndsWith, CanJoin, IsJoined}
@@ -202,7 +202,7 @@ module _ {T : Type 0} (blank : T) (nodes : List (Node T)) {ends : List Ends} (li
                 items' ∙ (map-set (λ (n : Node T). n.item) nodes free.first (record { item = item; next = y.next })
                 ∙ ap (λ (e : Ends). set (items_of nodes) e.first item) free_is)
 
-            -- the node stands in no other list
+            -- the node is in no other list
             elsewhere : (j : ℕ) → j ≢ 0 → j < length ends
                 → contents blank (items_of nodes') (nodes_from (links_of nodes) (end_of ends j)) ≡ contents blank (items_of nodes) (nodes_from (links_of nodes) (end_of ends j))
             elsewhere j ne lt =

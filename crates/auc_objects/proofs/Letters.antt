@@ -1,4 +1,4 @@
--- What a letter makes of the objects of a shard, as bids on each of them.
+-- The objects of a shard after a letter, as bids on each of them.
 use Rattle.std.proofs.Common.{◌≡◌, ◌≢◌, ℕ, ◌<◌, Bool, true, false, List, [], ◌∷◌, length, refl, sym, ap, ◌∙◌, arith, Some, None, subst, inl, inr, ◌==◌, ◌&&◌}
 use Rattle.std.specs.Prelude.{ℤ, Option}
 use Rattle.std.proofs.lemmas.Bool.{cases_Bool, cases_eq, eq-eqb, eqb-true, ne_eqb}

@@ -1,4 +1,4 @@
--- Objects as a shard keeps them: what one more, or another one in its place, leaves of their prices and holders.
+-- Packed objects of a shard: their prices and holders after one more, or after one is replaced.
 use Rattle.std.proofs.Common.{◌≡◌, ℕ, List, map, length, set, sym, ap, ◌∙◌, Option}
 use Rattle.std.specs.Prelude.{ℤ}
 use Rattle.std.proofs.lemmas.List.{map-set, length-map}

@@ -1,4 +1,4 @@
--- What a sale leaves of a shard, and of each of its objects.
+-- A shard, and each of its objects, after a sale.
 use Rattle.std.proofs.Common.{◌≡◌, ◌≢◌, ℕ, ◌<◌, List, length, set, refl, sym, ap, ◌∙◌, None}
 use Rattle.std.specs.Prelude.{ℤ, ◌≤ℤ◌, ◌<ℤ◌, pos, Option}
 use Rattle.std.proofs.lemmas.List.{get_or-set_same, get_or-set_other, length-set, set-get_or}
@@ -14,7 +14,7 @@ shape_same s = record { shard = refl; of = refl; person_shards = refl; persons =
 pub shape_sold : (s : Objects) (j : ℕ) (sale : Sale) → SameShape s (with_sale s j sale)
 shape_sold s j sale = record { shard = refl; of = refl; person_shards = refl; persons = refl; objects = length-set s.prices j sale.price; holders = length-set s.holders j sale.holder }
 
--- what an object has already changes nothing
+-- a sale with the object's own price and holder changes nothing
 with_same : (s : Objects) (j : ℕ) → with_sale s j (sale_of s j) ≡ s
 with_same s j =
     ap (λ (ps : List ℤ). record s { prices = ps; holders = set s.holders j (holder_of s j) }) (set-get_or s.prices j (pos 0))

@@ -16,7 +16,7 @@ best_arc val row f h = record {
   earliest = All-weaker (λ b. f.value ≡ val b → f.best.object ≡ b.object → f.best.arc ≤ b.arc) (λ b. val f.best ≡ val b → f.best.object ≡ b.object → f.best.arc ≤ b.arc) (λ b g e. g (h.is_value ∙ e)) row h.earliest;
 }
 
--- there is an arc to another object
+-- with an arc to another object
 next_amount_is : (s spread eps : ℤ) (q : ℕ → ℤ) (row : List RowArc) (f : Scan) (amount : ℤ) → IsScan (value s q) row f → f.second <ℤ endless → amount ≡ (q f.best.object +ℤ (f.second -ℤ f.value)) +ℤ eps
     → Reached (value s q) row f.best f.second → IsAmount s spread eps q row f.best amount
 next_amount_is s spread eps q row f amount h lt is (inl r) = absurd (omega (arith, ints, r.1))
@@ -30,7 +30,7 @@ next_amount_is s spread eps q row f amount h lt is (inr r) = inl (
   is ∙ rw (← r.3, ← h.is_value) refl,
 )
 
--- there is none
+-- without one
 only_amount_is : (s spread eps : ℤ) (q : ℕ → ℤ) (row : List RowArc) (f : Scan) (amount : ℤ) → endless ≤ℤ f.second → amount ≡ (q f.best.object +ℤ (s *ℤ spread)) +ℤ eps
     → Reached (value s q) row f.best f.second → IsAmount s spread eps q row f.best amount
 only_amount_is s spread eps q row f amount le is (inl r) = inr (r.0, is)

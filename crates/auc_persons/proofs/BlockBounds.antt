@@ -1,4 +1,4 @@
--- Bounds of blocks, seen as lists of candidates.
+-- Bounds of blocks, as candidate lists.
 use Rattle.std.proofs.Common.{◌≡◌, ℕ, ◌+◌, ◌-◌, ◌*◌, ◌<◌, ◌≤◌, ◌⊎◌, inl, inr, cond, List, [], length, get_or, take, drop, ap, sym, refl, ◌∙◌, arith, pos, true}
 use Rattle.std.specs.Prelude.{Bool, T, false, ℤ, ◌≤ℤ◌, ◌<ℤ◌, All, Contains, int_lt}
 use Rattle.std.proofs.lemmas.Bool.{cases_lt}
@@ -25,7 +25,7 @@ module _ (row : List RowArc) (block : ℕ) (within : 16 * block ≤ length row) 
   beside_length : length (beside block row) ≡ 16 * block + (length row - (16 * block + 16))
   beside_length = length-append (take (16 * block) row) (drop (16 * block + 16) row) ∙ omega (arith, front_length, back_length)
 
-  -- where an arc beside the block stands in the row
+  -- the place in the row of an arc outside the block
   stands_by : (i : ℕ) (d : RowArc) → i < length (beside block row) → (i < 16 * block) ⊎ (16 * block ≤ i) → (p : ℕ) × (get_or (beside block row) i d ≡ get_or row p d) × (p < length row) × (((i < 16 * block) × (p ≡ i)) ⊎ ((16 * block ≤ i) × (p ≡ i + 16)))
   stands_by i d lt (inl before) = (i, get_or_append_left (take (16 * block) row) (drop (16 * block + 16) row) d i (omega (arith, front_length, before)) ∙ get_or-take (16 * block) row i d before, omega (arith, before, within), inl (before, refl))
   stands_by i d lt (inr behind) = (
@@ -88,7 +88,7 @@ module _ (row : List RowArc) (block : ℕ) (within : 16 * block ≤ length row) 
     rest = inr (λ k d lt. rest_by val least k d above lt (cases_lt k (16 * block)) (cases_lt k (16 * block + 16)));
   }
 
-  -- and the other way round
+  -- and the converse
   above_by : (val : RowArc → ℤ) (least : ℤ) (k : ℕ) (d : RowArc) → Rises row → 16 * block ≤ k → k < 16 * block + 16 → k < length row → Contains (beside block row) (get_or row k d) ⊎ (least ≤ℤ val (get_or row k d)) → least ≤ℤ val (get_or row k d)
   above_by val least k d rises low high lt (inl there) = absurd (not_beside k d rises low high lt there)
   above_by val least k d rises low high lt (inr out) = out

@@ -1,4 +1,4 @@
--- Of which blocks bounds are: that stays so.
+-- The blocks to which bounds belong don't change.
 use Rattle.std.proofs.Common.{◌≡◌, ℕ, ◌+◌, ◌-◌, ◌*◌, ◌<◌, ◌≤◌, ◌⊎◌, inl, inr, List, [], ◌∷◌, ◌++◌, length, get_or, refl, ◌∙◌, w64, arith, subst}
 use Rattle.std.specs.Prelude.{FitsSigned, ℤ, ◌<ℤ◌, All, set}
 use Rattle.std.proofs.lemmas.Bool.{cases_eq, cases_lt}
@@ -10,7 +10,7 @@ use Rattle.auc_persons.specs.declared.bidder.bound.Bound.{Bound}
 use Rattle.auc_persons.specs.declared.bidder.bound.Blocked.{Blocked}
 use Rattle.auc_persons.specs.Blocks.{AreAppended, AreNumbered, AreOfSame, IsOf, IsUnknown}
 
--- of a bound the value alone has changed
+-- only the value of the bound has changed
 pub same_set : (before bounds : List Bound) (at : ℕ) (d : Bound) (least : ℤ) → at < length bounds → AreOfSame before bounds → AreOfSame before (set bounds at (record (get_or bounds at d) { least = least }))
 same_set before bounds at d least lt same = record {
   many = length-set bounds at new ∙ same.many;
@@ -34,7 +34,7 @@ numbered_still before after b same numbered k d long lt =
 pub all_numbered_still : (before after : List Bound) (persons : List Blocked) → AreOfSame before after → All (AreNumbered before) persons → All (AreNumbered after) persons
 all_numbered_still before after persons same numbered = All-weaker (AreNumbered before) (AreNumbered after) (λ b n. numbered_still before after b same n) persons numbered
 
--- bounds of other blocks came after
+-- bounds of other blocks are appended
 numbered_before : (before after : List Bound) (person blocks : ℕ) (b : Blocked) → AreAppended person blocks before after → AreNumbered before b → AreNumbered after b
 numbered_before before after person blocks b more numbered k d long lt =
     let n = numbered k d long lt in
@@ -43,7 +43,7 @@ numbered_before before after person blocks b more numbered k d long lt =
 pub all_numbered_before : (before after : List Bound) (person blocks : ℕ) (persons : List Blocked) → AreAppended person blocks before after → All (AreNumbered before) persons → All (AreNumbered after) persons
 all_numbered_before before after person blocks persons more numbered = All-weaker (AreNumbered before) (AreNumbered after) (λ b n. numbered_before before after person blocks b more n) persons numbered
 
--- bounds of his own
+-- bounds of the person's own
 pub numbered_new : (before after : List Bound) (person blocks : ℕ) (b : Blocked) → AreAppended person blocks before after → b.person ≡ person → b.start ≡ length before → ((k : ℕ) → 256 < b.arcs → 16 * k < b.arcs → k < blocks) → AreNumbered after b
 numbered_new before after person blocks b more own start enough k d long lt =
     let n = more.new k d (enough k long lt) in
@@ -81,7 +81,7 @@ appended_push person blocks before bounds b more own unknown = record {
         let last : k ≡ blocks = omega (arith, le, lt) in
         rw (get_or_push bounds b d (length before + k) (omega (arith, more.many, last)), last) (own, unknown)
 
--- all that nobody has looked at
+-- bounds that are all unknown
 pub unknown_before : (before after : List Bound) (person blocks : ℕ) → AreAppended person blocks before after → All IsUnknown before → All IsUnknown after
 unknown_before before after person blocks more unknown k d lt = by (cases_lt k (length before))
   where

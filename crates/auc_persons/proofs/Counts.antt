@@ -1,4 +1,4 @@
--- How many persons are free.
+-- The number of free persons.
 use Rattle.std.proofs.Common.{◌≡◌, ◌≢◌, ℕ, ◌+◌, ◌<◌, ◌≤◌, cond, List, length, get_or, set, refl, arith, length-set}
 use Rattle.std.specs.Prelude.{count_by}
 use Rattle.std.proofs.lemmas.List.Sums.{sum_by-set, count_by-le-length}

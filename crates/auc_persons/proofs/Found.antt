@@ -67,7 +67,7 @@ follows_high : (a : RowArc) (v : ℤ) (f : Scan) → Follows a v f → f.value �
 follows_high a v f (inl p) = omega (arith, ints, p)
 follows_high a v f (inr p) = omega (arith, ints, p.0)
 
--- what covers an arc goes on covering it, when another one goes before the best
+-- what covers an arc still covers it after a better arc
 below_lowest : (val : RowArc → ℤ) (f : Scan) (a b : RowArc) (v : ℤ) → Precedes a v f → Covers val f b → v ≡ val b → a.object ≤ b.object
 below_lowest val f a b v (inl p) h e = let l = h.least in omega (arith, ints, p, l, e)
 below_lowest val f a b v (inr p) h e = by p.1

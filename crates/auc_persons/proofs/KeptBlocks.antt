@@ -1,4 +1,4 @@
--- Blocks of a shard, seen as lists of candidates.
+-- Blocks of a shard, as candidate lists.
 use Rattle.std.proofs.Common.{◌≡◌, ℕ, ◌+◌, inr, inl, List, [], ◌∷◌, ◌++◌, length, get_or, refl, arith, pos}
 use Rattle.std.specs.Prelude.{ℤ, All, map}
 use Rattle.std.specs.List.{AllByRecursion}

@@ -1,4 +1,4 @@
--- A part of a row that a pass looks at.
+-- The part of a row that a pass looks at.
 use Rattle.std.proofs.Common.{◌≡◌, ◌+◌, ◌*◌, ◌<◌, ◌≤◌, ◌⊎◌, inl, inr, ℕ, List, get_or, length, refl, arith, pos}
 use Rattle.std.specs.Prelude.{ℤ, ◌≤ℤ◌, ◌<ℤ◌, All}
 use Rattle.std.specs.List.{AllWithin}

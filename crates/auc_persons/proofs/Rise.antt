@@ -1,4 +1,4 @@
--- What no call changes: copies never fall, and the numbers of persons and objects stay.
+-- Invariants of all calls: copies never fall, and the numbers of persons and objects stay.
 use Rattle.std.proofs.Common.{◌≡◌, ℕ, ◌<◌, ◌⊎◌, inl, inr, List, length, get_or, set, refl, arith, pos, get_or-set_same, get_or-set_other}
 use Rattle.std.specs.Prelude.{ℤ, ◌≤ℤ◌}
 use Rattle.std.proofs.lemmas.Int.{ints}

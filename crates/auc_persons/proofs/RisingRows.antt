@@ -13,7 +13,7 @@ use Rattle.auc_persons.specs.Scan.{endless, IsScan, IsValue, Loses}
 use Rattle.auc_persons.specs.Priced.{no_arc}
 use Rattle.auc_persons.proofs.Scans.{first, other_loses, other_next, other_wins, row_whole}
 
--- what is found, with the arc itself
+-- the result, with the arc itself
 abbrev pub scan_at : Nearest → Scan
 scan_at l = record { value = l.value; second = l.second; best = l.best.now }
 
@@ -89,7 +89,7 @@ climbs_more row last i h lt above =
 pub climbs_whole : (row : List RowArc) (last i : ℕ) → length row ≤ i → Climbs row last i → IsRisingRow row
 climbs_whole row last i le h = rw (take_all i row le) at h.pairs
 
--- an arc that leads no higher ends it
+-- an arc to an object that is no higher ends it
 pub falls : (row : List RowArc) (last i : ℕ) → Climbs row last i → i < length row → (get_or row i no_arc).object ≤ last → IsRisingRow row → ⊥
 falls row last i h within le rising =
     let before = rising h.top.0 i no_arc h.top.1 within in

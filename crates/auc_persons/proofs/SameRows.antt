@@ -23,12 +23,12 @@ order row p q rises p_lt q_lt lt = by (cases_lt p q) (cases_lt q p)
     by (inr le) (inl above) = let o = rises q p no_arc above p_lt in absurd (omega (arith, o, lt))
     by (inr le) (inr ge) = let same : p ≡ q = omega arith in let e = ap (place row) same in absurd (omega (arith, e, lt))
 
--- where an arc of the other row stands in this one
+-- the place in this row of an arc of the other one
 found : (row other : List RowArc) (i : ℕ) → All (Contains row) other → i < length other → (q : ℕ) × (q < length row) × (get_or row q no_arc ≡ get_or other i no_arc)
 found row other i members lt = let m = members i no_arc lt in (m.0, m.1, get_or_default row m.0 no_arc (get_or other i no_arc) m.1 ∙ m.2)
 
 module _ (row other : List RowArc) (rises : Rises row) (also : Rises other) (members : All (Contains row) other) where
-  -- of two arcs of the other row, the earlier one stands earlier in this row too
+  -- of two arcs of the other row, the earlier one comes earlier in this row too
   in_order : (i j p q : ℕ) → i < j → j < length other → p < length row → q < length row → get_or row p no_arc ≡ get_or other i no_arc → get_or row q no_arc ≡ get_or other j no_arc → p < q
   in_order i j p q lt j_lt p_lt q_lt p_is q_is =
       let up : place other i < place other j = also i j no_arc lt j_lt in

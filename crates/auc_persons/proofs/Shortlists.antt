@@ -1,4 +1,4 @@
--- Lists of candidates.
+-- Candidate lists.
 use Rattle.std.proofs.Common.{◌≡◌, ℕ, zero, suc, Bool, true, false, ◌+◌, ◌-◌, ◌<◌, ◌≤◌, ◌⊎◌, inl, inr, List, [], ◌∷◌, ◌++◌, length, get_or, take, ap, refl, arith, pos, Option, Some, None}
 use Rattle.std.specs.Prelude.{ℤ, ◌≤ℤ◌, All, AllPairs, Contains, IfSome}
 use Rattle.std.proofs.lemmas.Int.{ints}
@@ -112,7 +112,7 @@ module _ (val : RowArc → ℤ) (row arcs : List RowArc) (bound : ℤ) (i : ℕ)
   pub row_out : bound ≤ℤ val (get_or row i no_arc) → Gathered val (take (i + 1) row) arcs bound
   row_out out = rw (take_more row i no_arc lt) (gathered_out val (take i row) arcs bound (get_or row i no_arc) g out)
 
--- places that are left out, since what stands there is at the bound or above
+-- places that are left out, since the values there are the bound or above
 out_by : (val : RowArc → ℤ) (row arcs : List RowArc) (bound : ℤ) (i : ℕ) → AllPairs (λ a b. a.arc < b.arc) row → (i < length row → bound ≤ℤ val (get_or row i no_arc)) → Gathered val (take i row) arcs bound → (i < length row) ⊎ (length row ≤ i) → Gathered val (take (i + 1) row) arcs bound
 out_by val row arcs bound i order out g (inl lt) = row_out val row arcs bound i order lt g (out lt)
 out_by val row arcs bound i order out g (inr le) = rw (take_all (i + 1) row (omega (arith, le))) (rw (take_all i row le) at g)

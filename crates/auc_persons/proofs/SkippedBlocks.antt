@@ -37,7 +37,7 @@ module _ (made t : Table) (copies : List ℤ) (before bounds : List Bound) (b : 
   abbrev val : RowArc → ℤ
   val = value (pos (length t.rows + 1)) (copy_in copies)
 
-  -- where the bound of a block stands
+  -- the place of the bound of a block
   stands : (block : ℕ) (d : Bound) → 16 * block < length (row_of t person) → (b.start + block < length bounds) × IsOf person block (get_or bounds (b.start + block) d)
   stands block d lt =
       let number = h.numbered block d (omega (arith, h.arcs, h.long)) (omega (arith, h.arcs, lt)) in

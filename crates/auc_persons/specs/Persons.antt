@@ -124,6 +124,7 @@ Answered s i j p wanted after r n = Outcome (FitsAnswer s i j p wanted) s j p af
 abbrev pub Priced : Persons → ℕ → ℤ → Result (Unit {0}) PersonFault → Persons → Type 0
 Priced s j p r n = Outcome (FitsPrice s j p) s j p (with_copy s j p) r n
 
+-- the result of a letter to the shard, by its kind; a letter that is not for persons is stray
 abbrev pub OnLetter : Persons → Letter → Result (Unit {0}) PersonFault → Persons → Type 0
 OnLetter s (Letter.Award i j p) r n = Answered s i j p (Waits j) (held_after s i j p) r n
 OnLetter s (Letter.Refused i j p) r n = Answered s i j p (Waits j) (free_after s i j p) r n

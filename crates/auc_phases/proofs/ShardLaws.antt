@@ -1,4 +1,4 @@
--- A shard stays one of its phase where it has bid, heard or answered, and its letters go to boxes that are there.
+-- A shard stays one of its phase after a bid, a letter or an answer, and its letters go to boxes that exist.
 use Rattle.std.proofs.Common.{ℕ, ◌%◌, ◌<◌, ◌≡◌, Bool, true, false, cond, List, [], ◌∷◌, ap, sym, subst, ◌∙◌, arith}
 use Rattle.std.specs.Prelude.{ℤ, Option, Some, None, All, Result, Ok, Err}
 use Rattle.auc_graph.specs.Table.{Table}
@@ -27,7 +27,7 @@ own_shape x y same xs own = All-weaker (OwnsPerson x) (OwnsPerson y) (own_same x
 own_idle : (y : Persons) (xs : List ℕ) → y.idle ≡ xs → All (OwnsPerson y) xs → All (OwnsPerson y) y.idle
 own_idle y xs e own = subst (λ zs. All (OwnsPerson y) zs) (sym e) own
 
--- the free persons of a shard stay its own, where it has bid or heard a letter
+-- the free persons of a shard stay its own, after a bid or a letter
 unchanged_own : (x y : Persons) → y ≡ x → All (OwnsPerson x) x.idle → All (OwnsPerson y) y.idle
 unchanged_own x y e own = subst (λ (z : Persons). All (OwnsPerson z) z.idle) (sym e) own
 

@@ -4,13 +4,13 @@ use Rattle.std.specs.Prelude.{ℤ, pos, Option, Some, None}
 use Rattle.auc_graph.specs.Table.{Table}
 use Rattle.auc_phases.specs.Eps.{first_eps, next_eps}
 
--- eps of a phase, if there is one, and of those after it, at most so many
+-- the eps of a phase, if there is one, and of those after it, at most this number
 abbrev phases : ℕ → Option ℤ → List ℤ
 phases zero eps = []
 phases (suc n) None = []
 phases (suc n) (Some eps) = eps ∷ phases n (next_eps eps)
 
--- rows of so many persons without arcs
+-- rows of this number of persons, without arcs
 abbrev persons_with_spread : ℕ → ℤ → Table
 persons_with_spread n spread = record { objects = n; spread = spread; rows = replicate n [] }
 

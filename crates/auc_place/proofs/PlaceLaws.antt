@@ -144,7 +144,7 @@ begins_behind number limit (Within place) seen rest le still found =
     (fewer number (limit - MOST_SHOWN) begun.before (begun.token ++ rest) (omega (arith, le, long, few_shown number seen place begun found.1)) (omega (arith, begun.numbered)))
 begins_behind number limit (Behind place) seen rest le still found = absurd still
 
--- a search that was given up after at least so many bytes
+-- a search that was given up after at least this number of bytes
 pub given_up : (number limit : ℕ) (finding : Finding) (old new : Option (List ℕ)) (seen : List ℕ) → Consumes old new seen → limit ≤ length seen → IsOpen finding → IsFinding number seen finding
     → IfSome old (λ text. BeginsBehind text number (limit - MOST_SHOWN))
 given_up number limit finding None new seen consumed le still found = tt

@@ -108,7 +108,7 @@ one_grows seen b ends = elim (cases_Bool (is_separator b)) [
   | inr stays ↦ elim ends [ inl apart ↦ omega (arith, one_more seen b apart stays) | inr inside ↦ omega (arith, as_many seen b inside stays) ]
 ]
 
--- each text ends inside a token or apart from what follows
+-- each text ends inside a token or outside
 ends_on : (seen more : List ℕ) → IsApart seen ⊎ IsInside seen → IsApart (seen ++ more) ⊎ IsInside (seen ++ more)
 ends_on seen [] ends = subst (λ (t : List ℕ). IsApart t ⊎ IsInside t) (sym (append-nil seen)) ends
 ends_on seen (b ∷ more) ends =

@@ -1,4 +1,4 @@
--- What is known of a text of which a beginning has been looked through.
+-- The state of the search for a token, after a beginning of the text.
 use Rattle.std.specs.Prelude.{◌≡◌, ℕ, ◌<◌, ◌≤◌, Bool, true, false, List, [], ◌∷◌, ◌++◌, length, ⊤}
 use Rattle.auc_graph.specs.Tokens.{is_separator, tokens}
 use Rattle.auc_place.specs.declared.place.Place.{Place}
@@ -7,16 +7,16 @@ use Rattle.auc_place.specs.declared.finding.Finding.{Finding}
 use Rattle.auc_place.specs.declared.finding.Finding.TheVariants.{Before, Within, Behind}
 use Rattle.auc_place.specs.Places.{IsPlaceOf, line_behind, column_behind, shows}
 
--- there is no separator in it
+-- the bytes have no separator among them
 abbrev pub IsPlain : List ℕ → Type 0
 IsPlain [] = ⊤
 IsPlain (b ∷ bs) = (is_separator b ≡ false) × IsPlain bs
 
--- no token of what follows begins in this text
+-- the text ends outside a token: no token of what follows begins in it
 abbrev pub IsApart : List ℕ → Type 0
 IsApart seen = (more : List ℕ) → tokens (seen ++ more) ≡ tokens seen ++ tokens more
 
--- bytes that follow and are no separators go on with its last token
+-- the text ends inside a token: bytes that follow and are no separators continue it
 abbrev pub IsInside : List ℕ → Type 0
 IsInside seen = (more : List ℕ) → IsPlain more → length (tokens (seen ++ more)) ≡ length (tokens seen)
 
@@ -24,7 +24,7 @@ abbrev pub EndsSo : Bool → List ℕ → Type 0
 EndsSo true seen = IsInside seen
 EndsSo false seen = IsApart seen
 
--- so many tokens begin in this text, and it ends so
+-- this number of tokens begins in the text, and it ends inside a token or outside
 pub record HasTokens (seen : List ℕ) (count : ℕ) (inside : Bool) : Type 0 where
   pub many : count ≡ length (tokens seen)
   pub ends : EndsSo inside seen
@@ -34,7 +34,7 @@ pub record IsCursor (seen : List ℕ) (cursor : Cursor) : Type 0 where
   pub line : cursor.line ≡ line_behind seen
   pub column : cursor.column ≡ column_behind seen
 
--- the token of this number has begun, and no separator has come since
+-- the token of this number has begun, and no separator has come since then
 pub record IsBegun (number : ℕ) (seen : List ℕ) (place : Place) : Type 0 where
   pub before : List ℕ
   pub token : List ℕ

@@ -1,4 +1,4 @@
--- The rows of a problem: what lies in one, and that they are those of its table.
+-- The rows of a problem: the arcs of each, and that they are those of its table.
 use Rattle.std.proofs.Common.{ℕ, ℤ, pos, zero, suc, ◌+◌, ◌<◌, ◌≤◌, ◌≡◌, refl, arith, inl, inr, List, [], ◌∷◌, length, get_or, map, ap, sym, ◌∙◌}
 use Rattle.std.specs.Prelude.{All, filter, ◌*◌, ◌^◌, ◌≤ℤ◌}
 use Rattle.std.specs.List.{enumerate_from, range_with_len}
@@ -28,7 +28,7 @@ each_numbered P m [] h k d lt = absurd (omega (arith, lt))
 each_numbered P m (a ∷ arcs) h zero d lt = h 0 a (omega arith)
 each_numbered P m (a ∷ arcs) h (suc k) d lt = each_numbered P (m + 1) arcs (λ j e l. h (suc j) e (omega (arith, l))) k d (omega (arith, lt))
 
--- what lies in a row are arcs of the problem
+-- the arcs of a row are arcs of the problem
 short_is : (p : Problem) (i : ℕ) → IsProblem p → All (IsShort p.objects) (short_row i p.arcs)
 unfolding row
 short_is p i is =

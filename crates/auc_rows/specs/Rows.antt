@@ -1,4 +1,4 @@
--- The rows of a problem, in arcs of eight bytes.
+-- The rows of a problem, with arcs of eight bytes.
 use Rattle.std.specs.Prelude.{ℕ, ℤ, pos, ◌≡◌, ◌<◌, ◌≤◌, ◌+◌, ◌*◌, ◌^◌, neg_ℤ, ◌≤ℤ◌, List, [], length, map, All, slice_index_or}
 use Rattle.auc_graph.specs.declared.arc.Arc.{Arc}
 use Rattle.auc_graph.specs.declared.limits.TheConstants.{MOST_ARCS, MOST_COST, MOST_OBJECTS, MOST_PERSONS}
@@ -8,11 +8,11 @@ use Rattle.auc_graph.specs.Row.{row}
 use Rattle.auc_graph.specs.Table.{IsTableOf, Table, row_of}
 use Rattle.auc_rows.specs.declared.arc.ShortArc.{ShortArc}
 
--- an arc of a row without its place
+-- an arc of a row without its place in the problem's list
 abbrev pub short : RowArc → ShortArc
 short a = record { object = a.object; cost = a.cost }
 
--- an arc where there are so many objects
+-- an arc in a table with this number of objects: its object and its cost are in range
 pub record IsShort (objects : ℕ) (s : ShortArc) : Type 0 where
   pub object : s.object < objects
   pub low : neg_ℤ MOST_COST ≤ℤ s.cost
@@ -27,7 +27,7 @@ pub record FlatTable : Type 0 where
 abbrev pub flat_row_of : FlatTable → ℕ → List ShortArc
 flat_row_of r i = slice_index_or r.rows i []
 
--- by what costs are multiplied: one more than the persons
+-- the factor that scales costs: one more than the number of persons
 abbrev pub scale_in : FlatTable → ℤ
 scale_in r = pos (length r.rows + 1)
 
@@ -35,7 +35,7 @@ scale_in r = pos (length r.rows + 1)
 abbrev pub EachHasArc : FlatTable → Type 0
 EachHasArc r = (i : ℕ) → i < length r.rows → 0 < length (flat_row_of r i)
 
--- what holds of the rows of each problem
+-- the limits of the rows of each problem
 pub record IsFlatTable (r : FlatTable) : Type 0 where
   pub some : 1 ≤ length r.rows
   pub most : length r.rows ≤ MOST_PERSONS
@@ -48,11 +48,11 @@ pub record IsFlatTable (r : FlatTable) : Type 0 where
 
 -- ---- of a problem
 
--- the arcs of a person, in the order of the list
+-- the row of a person: its arcs, in the order of the problem's list
 abbrev pub short_row : ℕ → List Arc → List ShortArc
 short_row i arcs = map short (row i arcs)
 
--- the same rows
+-- the same rows as in the other form
 pub record AreSameRows (t : Table) (r : FlatTable) : Type 0 where
   pub objects : r.objects ≡ t.objects
   pub persons : length r.rows ≡ length t.rows

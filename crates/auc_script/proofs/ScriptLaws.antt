@@ -10,7 +10,7 @@ use Rattle.auc_script.specs.Script.{◌>>=◌, ReadCall, call_at, calls_from}
 abbrev ok : List (Call ℤ) → Result (List (Call ℤ)) ScriptError
 ok calls = Ok calls
 
--- calls that stand in front of those that are read
+-- calls that come before those that are read
 abbrev pub in_front : List (Call ℤ) → Result (List (Call ℤ)) ScriptError → Result (List (Call ℤ)) ScriptError
 in_front front read = read >>= λ others. Ok (front ++ others)
 

@@ -1,4 +1,4 @@
--- The replies of a mail's calls: which are right for a script, and the lines that tell them.
+-- The replies to the calls of a script: which are right, and the lines that report them.
 use Rattle.std.specs.Prelude.{◌≡◌, ℕ, ◌+◌, true, false, List, ◌++◌, length, codes, ℤ}
 use Rattle.std.specs.List.{flat_map, zip}
 use Rattle.std.specs.Fmt.{decimal, signed_decimal}
@@ -12,7 +12,7 @@ use Rattle.auc_mail.specs.declared.call.Reply.{Reply}
 use Rattle.auc_mail.specs.declared.call.Reply.TheVariants.{Posted, Refused, Took, WasOpen}
 use Rattle.auc_script.specs.declared.script.Script.{Script}
 
--- senders are written from 1 on
+-- the line of a reply; senders are written counted from 1
 abbrev pub reply_line : Reply ℤ → List ℕ
 reply_line (Posted n) = counted (codes "ok ") n
 reply_line (Refused Closed) = codes "closed\n"
@@ -27,8 +27,9 @@ reply_line (WasOpen false) = codes "was closed\n"
 abbrev pub reply_lines : List (Reply ℤ) → List ℕ
 reply_lines replies = flat_map reply_line replies
 
--- The mail of a script may give these replies to its calls: there is one for each, and they are a run from the empty
--- mail. So each box hands out of a sender's items a prefix of what he sent there, and accepts nothing after a close.
+-- The mail of a script may give these replies to its calls: there is one for each, and together they are a run from the
+-- empty mail. So each box hands out of a sender's items a prefix of what the sender sent to it, and accepts nothing
+-- after a close.
 pub record AreRepliesTo (s : Script) (replies : List (Reply ℤ)) : Type 0 where
   pub one_each : length replies ≡ length s.calls
   pub last : Mail ℤ

@@ -1,4 +1,4 @@
--- How a text reads as a script: as a mail and the calls on it, or as its first fault.
+-- How a text is read as a script: as a mail and the calls on it, or as its first fault.
 use Rattle.std.specs.Prelude.{◌≡◌, ℕ, zero, suc, ◌+◌, ◌-◌, Bool, List, [], ◌∷◌, codes, Option, Some, None, Result, Ok, Err, ℤ, pos, neg_ℤ, unsigned_abs, nat_eq, if◌then◌else◌}
 use Rattle.std.specs.Cmp.Lexicographic.{pointwise}
 use Rattle.auc_graph.specs.declared.number.Number.{Number}
@@ -57,7 +57,7 @@ count least most k more = do
   x ← operand (pos least) (pos most) k more
   Ok (unsigned_abs x.0, x.1)
 
--- a call, how many tokens there are up to its end, and the tokens after it
+-- a call, the number of tokens up to its end, and the tokens after it
 abbrev pub ReadCall : Type 0
 ReadCall = (Call ℤ × ℕ) × List (List ℕ)
 
@@ -69,7 +69,7 @@ post_at boxes senders k more = do
   reserve ← count 0 most_nodes (k + 4) item.1
   Ok ((Post sender.0 to.0 item.0 reserve.0, k + 5), reserve.1)
 
--- the call whose command stands at token k
+-- the call whose command is token k
 abbrev pub call_by : ℕ → ℕ → ℕ → List (List ℕ) → Option CommandWord → Result ReadCall ScriptError
 call_by boxes senders k more (Some PostWord) = post_at boxes senders k more
 call_by boxes senders k more (Some TakeWord) = do
@@ -84,7 +84,7 @@ call_by boxes senders k more None = Err (Word k)
 abbrev pub call_at : ℕ → ℕ → ℕ → List ℕ → List (List ℕ) → Result ReadCall ScriptError
 call_at boxes senders k word more = call_by boxes senders k more (command word)
 
--- the calls from token k on, of which so many are left to come
+-- the calls from token k on, of which at most `left` may come
 unfoldable pub calls_from : ℕ → ℕ → ℕ → ℕ → List (List ℕ) → Result (List (Call ℤ)) ScriptError
 calls_from left boxes senders k [] = Ok []
 calls_from zero boxes senders k (word ∷ more) = Err TooManyCalls
@@ -93,7 +93,7 @@ calls_from (suc left) boxes senders k (word ∷ more) = do
   calls ← calls_from left boxes senders call.0.1 call.1
   Ok (call.0.0 ∷ calls)
 
--- a script begins with this word
+-- the first word of a script has to be `mail`
 abbrev pub opening : Option CommandWord → Result ℕ ScriptError
 opening (Some MailWord) = Ok 1
 opening (Some PostWord) = Err (Word 0)
@@ -115,6 +115,6 @@ script_of (word ∷ more) = do
 abbrev pub script_in : List ℕ → Result Script ScriptError
 script_in text = script_of (tokens text)
 
--- a text reads as this script, or by this first fault as none, unless memory ran out
+-- the text is this script, or has this first fault, unless memory ran out
 abbrev pub ReadsAsScript : List ℕ → Result Script ScriptError → Type 0
 ReadsAsScript text script = AnswersUnless NoMemory (λ s. s) script (λ r. script_in text ≡ r)

@@ -1,4 +1,4 @@
--- How large the numbers of a script may be.
+-- The limits of the numbers of a script.
 use Rattle.std.specs.Prelude.{ℕ, ℤ, pos}
 
 -- boxes, and senders

@@ -1,4 +1,4 @@
--- What comes of a question for a bid.
+-- The result of asking a person shard for a bid.
 use Rattle.std.proofs.Common.{◌≡◌, ℕ, ◌<◌, sym, ◌∙◌, subst, arith}
 use Rattle.std.specs.Prelude.{ℤ}
 use Rattle.auc_graph.specs.Table.{Table}

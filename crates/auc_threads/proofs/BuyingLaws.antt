@@ -1,4 +1,4 @@
--- What a worker of the persons bids and hears, one after another.
+-- The bids and the letters of a person worker, one after another.
 use Rattle.std.proofs.Common.{◌≡◌, ◌≢◌, ℕ, ◌+◌, ◌-◌, ◌≤◌, ◌<◌, List, [], ◌∷◌, ◌++◌, length, refl, ap, sym, ◌∙◌, subst, inl, inr, arith, append_assoc}
 use Rattle.std.specs.Prelude.{ℤ, Ok, Err}
 use Rattle.std.proofs.lemmas.List.{append-nil}
@@ -101,7 +101,7 @@ none_left t eps n fault h =
     no_fault PersonFault.Stray e = cc
     no_fault PersonFault.Fell e = cc
 
--- and just so many where they ended it
+-- and exactly the limit where the limit ended the worker
 pub bids_spent : (t : Table) (eps : ℤ) (r : Rooms) (at : ℕ) (old new : Worker Persons) (step : Step) → Buys (round t eps) r at old new step → old.seats.objects.count ≡ 0 → step ≡ Step.Stop Why.Bids → new.seats.objects.count ≡ old.shard.bids
 bids_spent t eps r at old new step f none stop =
     let both = bids_stop f.posts_step f.acts_step (sym stop ∙ f.is) (posts_bids (made_in f.acts) f.posts.posts f.posts_step f.posts.posted) in
@@ -120,7 +120,7 @@ bids_noted t eps r at old new step f some fresh none =
 
 -- ---- asking
 
--- it goes on to ask, and nothing more comes of it
+-- the worker asks for more bids, and gets none
 pub asks_end : (t : Table) (eps : ℤ) (s m n : Persons) (old bids : List Out) (step : Step) → Asks (round t eps) (asker s old) (asker m bids) Step.On → n ≡ m → AfterAsks t eps n step → Asks (round t eps) (asker s old) (asker n bids) step
 asks_end t eps s m n old bids step f e after = record { acts = f.acts; plays = subst (λ (z : Persons). Plays t eps s f.acts z) (sym e) f.plays; heard = f.heard; made = f.made; after = after }
 
@@ -204,7 +204,7 @@ none_taken t eps n (Step.Stop why) h = ((λ e. cc), (λ e. stops why (why_same e
     stops : (y : Why) → y ≡ Why.Trail → Stops t eps n (first_idle n) y → ⊥
     stops y e s = subst (λ (z : Why). Stops t eps n (first_idle n) z) e s
 
--- bids were made and posted, and nothing was heard after them
+-- bids were made and posted, and no letter was taken after them
 module _ (t : Table) (eps : ℤ) (r : Rooms) (at : ℕ) (x : Worker Persons) (m : Persons) (b : Account Letter) (old bids sliced : List Out) (asked posted : Step) (f : Asks (round t eps) (asker x.shard old) (asker m bids) asked) (none : old ≡ []) (same : sliced ≡ bids) (g : PostsAt r.objects x.seats.objects sliced b posted) where
   made_posts : PostsAt r.objects x.seats.objects (made_in f.acts) b posted
   made_posts = subst (λ w. PostsAt r.objects x.seats.objects w b posted) (same ∙ (f.made ∙ ap (λ w. w ++ made_in f.acts) none)) g

@@ -41,7 +41,7 @@ turned_append : (cs ds : List Called) → turned_in (cs ++ ds) ≡ turned_in cs 
 turned_append [] ds = omega arith
 turned_append (c ∷ cs) ds = omega (arith, turned_append cs ds)
 
--- ---- what a seat tells
+-- ---- the account of a seat
 
 pub makes_none : (room : ℕ) (a : Account Letter) → Makes room a [] a
 makes_none room a = record { worker = refl; counted = omega arith; turned = more_none a.turned_away; told = λ some. sym (append-nil a.lines) }
@@ -82,7 +82,7 @@ makes_as room a b xs ys e f = subst (λ cs. Makes room a cs b) e f
 
 -- ---- a call shows
 
--- Whose account hasn't changed made no call; or the number of calls that were turned away stands at its last value. So
+-- A worker whose account hasn't changed made no call, unless the number of calls turned away is at its last value. So
 -- no body can claim calls that it doesn't make.
 pub calls_show : (room : ℕ) (a : Account Letter) (calls : List Called) → Makes room a calls a → (calls ≡ []) ⊎ (18446744073709551615 ≤ a.turned_away)
 calls_show room a [] f = inl refl

@@ -1,4 +1,4 @@
--- What the hub counts, and how it closes all boxes.
+-- The letters that the hub counts, and how it closes all boxes.
 use Rattle.std.proofs.Common.{◌≡◌, ◌≢◌, ℕ, ◌+◌, ◌<◌, Bool, List, [], ◌∷◌, ◌++◌, length, length-append, true, false, cond, Some, refl, ap, sym, ◌∙◌, inl, inr, arith}
 use Rattle.std.specs.Prelude.{None, Option, Result, Ok, Err, ◌⊎◌}
 use Rattle.std.proofs.lemmas.List.{append-nil}
@@ -89,7 +89,7 @@ other_counts (Ok Taken.Empty) why ends = absurd ends
 other_counts (Ok Taken.Over) why ends = refl
 other_counts (Err e) why ends = refl
 
--- one answer more, and then perhaps the boxes are closed
+-- one more answer, after which the boxes may be closed
 module _ (room persons : ℕ) (h n : Counting) (a b c : Account Letter) (r : Answer) (k : CountsOn room persons h a b) (call : SeatCalls room b (Call.Take 0) (take_reply r) c) where
   firsts_are : firsts_in (letters_taken (k.heard ++ r ∷ [])) ≡ h.count + firsts_in (letter_of r ++ [])
   firsts_are = ap firsts_in (taken_append k.heard (r ∷ [])) ∙ (firsts_append (letters_taken k.heard) (letter_of r ++ []) ∙ ap (λ (m : ℕ). m + firsts_in (letter_of r ++ [])) k.counted)

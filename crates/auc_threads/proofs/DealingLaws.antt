@@ -1,4 +1,4 @@
--- What a worker of the objects makes of letters, and says of them, one after another.
+-- How an object worker deals with letters and posts about them, one after another.
 use Rattle.std.proofs.Common.{◌≡◌, ℕ, ◌+◌, ◌<◌, ◌%◌, ◌==◌, not, Bool, true, false, cond, List, [], ◌∷◌, ◌++◌, filter, map, length, Some, None, refl, ap, sym, ◌∙◌, subst, arith, append_assoc, All}
 use Rattle.std.specs.Prelude.{Option, ℤ, Ok}
 use Rattle.std.specs.List.{range_with_len}
@@ -41,7 +41,7 @@ prices_more s n one object =
     ap (λ w. map (λ q. price_told s.persons q object (price_of s object)) w) (others_more n one)
     ∙ map-append (λ q. price_told s.persons q object (price_of s object)) (others n one) (cond (not (n == one)) (n ∷ []) [])
 
--- one shard more, which is told or which knows
+-- one more shard, which gets the price or knows it already
 pub prices_one : (s : Objects) (n one object : ℕ) (old now new : List Out) → (n == one) ≡ false → now ≡ old ++ prices_told s n one object → new ≡ now ++ price_told s.persons n object (price_of s object) ∷ [] → new ≡ old ++ prices_told s (n + 1) one object
 prices_one s n one object old now new ne was pushed =
     let more = prices_more s n one object ∙ ap (λ b. prices_told s n one object ++ map (λ q. price_told s.persons q object (price_of s object)) (cond (not b) (n ∷ []) [])) ne in
@@ -72,7 +72,7 @@ declined_is n eps sale bid not_two = by (is_accepted eps sale bid) not_two
     by true h = absurd (h (two_of n sale.holder bid))
     by false h = refl
 
--- what is noted of a bid is what is said of it
+-- the letters noted about a bid are those to be posted about it
 pub said_accepted : (eps : ℤ) (s t : Objects) (bid : Bid) (old one two ls : List Out) (shards knowing : ℕ) → is_accepted eps (sale_of s bid.object) bid ≡ true → t ≡ after_bid s eps bid → ls ≡ answers s.person_shards eps (sale_of s bid.object) bid
     → one ≡ old ++ ls → s.person_shards ≡ shards → knowing ≡ bid.person % shards → two ≡ one ++ prices_told t shards knowing bid.object → two ≡ old ++ says eps s bid
 said_accepted eps s t bid old one two ls shards knowing accepted left letters first e know second =
@@ -173,7 +173,7 @@ deals_then eps s t u xs ys said more step f g =
 pub with_shape : (eps : ℤ) (s t : Objects) (letters : List Letter) (said : List Out) (step : Step) → DealsWith eps s letters said t step → SameShape s t
 with_shape eps s t letters said step f = subst (λ (z : Objects). SameShape s z) (sym f.left) (shape_after eps s f.bids)
 
--- ---- with what the seat tells
+-- ---- with the account of the seat
 
 pub takes_none : (eps : ℤ) (room at : ℕ) (s : Objects) (a : Account Letter) (said : List Out) → said ≡ [] → Deals eps (box room at) (taker s a) said (taker s a) Step.On
 takes_none eps room at s a said none = record {

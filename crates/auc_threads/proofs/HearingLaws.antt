@@ -1,4 +1,4 @@
--- What a shard of the persons hears of prices, letter by letter.
+-- The prices that a person shard takes, letter by letter.
 use Rattle.std.proofs.Common.{◌≡◌, ℕ, ◌<◌, List, [], ◌∷◌, ◌++◌, length, get_or, set, refl, ap, sym, ◌∙◌, subst, inl, inr, append_assoc, arith}
 use Rattle.std.specs.Prelude.{ℤ, pos, ◌<ℤ◌, ◌⊎◌, Ok, Err}
 use Rattle.std.proofs.lemmas.Bool.{cases_eq}
@@ -23,7 +23,7 @@ rises_equal q r e = subst (λ xs. NeverFall q xs) (sym e) (rises_same q)
 rises_then : (q r u : List ℤ) → NeverFall q r → NeverFall r u → NeverFall q u
 rises_then q r u f g k = let x = f k in let y = g k in omega (arith, ints, x, y)
 
--- nothing is heard, and nothing falls
+-- no letter is taken, and no price falls
 pub hears_none : (s t : Persons) (fell : Type 0) → t.copies ≡ s.copies → (fell → ⊥) → HearsOf s [] t fell
 hears_none s t fell e never = record { heard = λ j. inl (ap (λ xs. get_or xs j (pos 0)) e); rise = rises_equal s.copies t.copies e; falls = λ f. absurd (never f) }
 
@@ -82,11 +82,11 @@ hears_nothing room at s t a b fell took e never = record { letters = []; took = 
 pub hears_taken : (room at : ℕ) (s t : Persons) (a b : Account Letter) (letters : List Letter) (fell : Type 0) → Takes room at a letters b → HearsOf s letters t fell → Hears (box room at) (taker s a) (taker t b) fell
 hears_taken room at s t a b letters fell took heard = record { letters = letters; took = took; hears = heard }
 
--- where it went on, what comes of it is told by what follows
+-- where the worker went on, the rest follows from what comes after
 pub hears_first : (room at : ℕ) (s t : Persons) (a b : Account Letter) (first fell : Type 0) → (fell → first) → Hears (box room at) (taker s a) (taker t b) first → Hears (box room at) (taker s a) (taker t b) fell
 hears_first room at s t a b first fell f h = record { letters = h.letters; took = h.took; hears = record { heard = h.hears.heard; rise = h.hears.rise; falls = λ x. h.hears.falls (f x) } }
 
--- the one letter that was taken tells a fall
+-- the one letter taken has a lower price than the copy
 fell_of : (s t : Persons) (x : Letter) (j : ℕ) (p : ℤ) (fell : Type 0) → t ≡ s → Tells j p x → p <ℤ copy_of s j → HearsOf s (x ∷ []) t fell
 fell_of s t x j p fell e tells low = record {
   heard = λ k. inl (ap (λ (z : Persons). copy_of z k) e);
@@ -123,7 +123,7 @@ hears_fault s t x PersonFault.Stray why fell h e is = hears_stray s t x fell h (
     stray_stays : Why.Stray ≡ Why.Fell → ⊥
     stray_stays e = cc
 
--- the one letter that was taken sets a copy
+-- the one letter taken sets a copy
 set_of : (s t : Persons) (x : Letter) (j : ℕ) (p : ℤ) (fell : Type 0) → t.copies ≡ set s.copies j p → j < length s.copies → Tells j p x → NeverFall s.copies t.copies → (fell → ⊥) → HearsOf s (x ∷ []) t fell
 set_of s t x j p fell e known tells rise never = record {
   heard = λ k.

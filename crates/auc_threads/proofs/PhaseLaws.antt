@@ -1,4 +1,4 @@
--- What a phase comes to, of what its workers gave back.
+-- The outcome of a phase, from the results of its workers.
 use Rattle.std.proofs.Common.{◌≡◌, ◌≢◌, ℕ, zero, suc, ◌+◌, ◌*◌, ◌%◌, ◌<◌, ◌≤◌, List, [], ◌∷◌, ◌++◌, Some, None, length, map, get_or, Bool, refl, ap, sym, ◌∙◌, subst, arith, append_assoc, All, inl, inr}
 use Rattle.std.specs.Prelude.{ℤ, pos, Option, IfSome, IsTrue, ◌↔◌}
 use Rattle.std.proofs.lemmas.Bool.{cases_lt}
@@ -153,7 +153,7 @@ module _ {O P H : Type 0} (g : Setting) (r : Rooms) (xs : List (PersonWork O P H
           let one : x.seats.objects.count ≤ g.limits.bids = bids_few _ _ _ _ _ _ _ at.1.work.buys refl in
           subst (λ (n : ℕ). n ≤ g.limits.bids) (value_at (λ x. x.seats.objects.count) d xs k x known at.2) one
 
-  -- what each of them did
+  -- the work of each of them
   pub played_told : (bids : List ℕ) → bids ≡ map (λ x. x.seats.objects.count) xs → length xs ≡ g.limits.shards → (k : ℕ) → k < g.limits.shards
       → HasPlayed g.table g.limits g.eps g.prices k (get_or bids k 0)
   played_told bids is many k low =
@@ -205,7 +205,7 @@ pushed_before [] y d j l = absurd (omega (arith, l))
 pushed_before (z ∷ ys) y d zero l = refl
 pushed_before (z ∷ ys) y d (suc j) l = pushed_before ys y d j (omega (arith, l))
 
--- one object more
+-- one more object
 pub gathers_more : {X : Type 0} (f : X → Objects) (shards n : ℕ) (xs : List X) (ps qs : List ℤ) (hs gs : List (Option Held)) (p : ℤ) (h : Option Held) (x : X)
     → qs ≡ ps ++ p ∷ [] → gs ≡ hs ++ h ∷ [] → length ps ≡ n → length hs ≡ n → n % shards < length xs → x ≡ get_or xs (n % shards) x → p ≡ price_of (f x) n → h ≡ holder_of (f x) n
     → ((j : ℕ) (d : X) → j < n → Gathers (f (get_or xs (j % shards) d)) j (get_or ps j (pos 0)) (get_or hs j None))
@@ -238,7 +238,7 @@ trail_of n boxes nodes limits s ls named set =
 abbrev pub seats_at : {O P H : Type 0} → (Accounts → Account Letter) → Works O P H → List (Account Letter)
 seats_at a w = (map (λ x. a (accounts_of x.seats)) w.persons.items ++ map (λ x. a (accounts_of x.seats)) w.objects.items) ++ a (accounts_of w.hub.seats) ∷ []
 
--- What the trails tell, of all that came back.
+-- What the trails prove of all results.
 module _ {O P H : Type 0} (g : Setting) (o p h : Numbers) (w : Works O P H) (are : AreWorks g (rooms o.room p.room h.room) w) (named : AreNamed g.limits (length g.table.rows) o p h)
     (some : 0 < g.limits.shards) (each : length g.prices ≡ g.table.objects) (persons_many : length w.persons.items ≡ g.limits.shards) (objects_many : length w.objects.items ≡ g.limits.shards)
     (e : PhaseEnd)
@@ -340,7 +340,7 @@ pub told_map : {T : Type 0} (o : Option T) (P Q R S : T → Type 0) → IfSome o
 told_map (Some t) P Q R S p q r f = f t p q r
 told_map None P Q R S p q r f = tt
 
--- ---- the end as it is told
+-- ---- the end as it is reported
 
 pub told_some : (told end : Option End) (x : End) → IfSome told (λ e. end ≡ Some e) → told ≡ Some x → end ≡ Some x
 told_some (Some e) end x h is = h ∙ is

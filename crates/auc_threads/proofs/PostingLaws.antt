@@ -1,4 +1,4 @@
--- What a worker posts, one letter after another.
+-- The posts of a worker, one letter after another.
 use Rattle.std.proofs.Common.{◌≡◌, ◌≢◌, ◌⊎◌, ℕ, ◌<◌, not, Bool, true, false, cond, List, [], ◌∷◌, ◌++◌, length, length-append, ◌≤◌, Some, None, refl, ap, sym, ◌∙◌, subst, inl, inr, arith, All, get_or}
 use Rattle.std.specs.Prelude.{Option, Result, Ok, Err, is_err}
 use Rattle.std.proofs.lemmas.List.Elements.{All-head, All-tail, filter-append}

@@ -1,4 +1,4 @@
--- What the award rule makes of the objects of a shard, by the letters that its worker took.
+-- The objects of a shard after the letters that its worker took, by the award rule.
 use Rattle.std.proofs.Common.{◌≡◌, ◌≢◌, ◌%◌, ◌<◌, ℕ, List, [], ◌∷◌, ◌++◌, length, map, refl, ap, sym, ◌∙◌, subst, inl, inr, arith}
 use Rattle.std.specs.Prelude.{ℤ, All}
 use Rattle.std.proofs.lemmas.Bool.{cases_eq, eq-eqb, ne_eqb}
@@ -58,7 +58,7 @@ sold_all eps s (b ∷ bs) j each fit =
     ∙ (ap (λ (x : Sale). award_all eps x (bids_on j (map bid_letter bs))) (sold_one eps s b j each (All-head (Fits s) b bs fit))
     ∙ (sym (fold-append (award eps) (sale_of s j) (bids_on j (bid_letter b ∷ [])) (bids_on j (map bid_letter bs))) ∙ ap (award_all eps (sale_of s j)) (sym (bids_append j (bid_letter b ∷ []) (map bid_letter bs)))))
 
--- what doesn't fit is no bid on an object of the shard
+-- a letter that doesn't fit is no bid on an object of the shard
 no_bids : (t : Objects) (stray : List Letter) (step : Step) (j : ℕ) → AfterLetters t stray step → Owns t j → bids_on j stray ≡ []
 no_bids t stray Step.On j after own = ap (bids_on j) after
 no_bids t stray Step.Over j after own = ap (bids_on j) after

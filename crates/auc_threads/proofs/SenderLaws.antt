@@ -53,7 +53,7 @@ module _ (w : ℕ) where
             All-cons IsTheirs l ls (λ e. absurd (there e)) (of_lines ls kept))
       ]
 
--- nobody but the persons posts at the objects' mail
+-- only the person workers post at the objects' mail
 module _ (g : Setting) (trails : Trails) (bids : List ℕ) (end : Option End) (some : 0 < g.limits.audit) (worked : AreWorked g trails bids end) where
   none_of_others : (w : ℕ) → g.limits.shards ≤ w → w < 2 * g.limits.shards + 1 → All NoPost (lines_of w trails.objects)
   none_of_others w from below =

@@ -1,5 +1,5 @@
--- That a worker made the calls that it has to make: where its account hasn't changed it made none, or so many were
--- turned away that their number no longer rises.
+-- A worker made the calls that it has to make. If its account hasn't changed it made none, or the number turned away is
+-- at its last value.
 use Rattle.std.proofs.Common.{◌≡◌, ◌⊎◌, ℕ, ◌<◌, ◌≤◌, Bool, List, [], ◌∷◌, ◌++◌, length, All, refl, sym, ◌∙◌, inl, inr, arith}
 use Rattle.std.specs.Prelude.{Result, Ok, Err}
 use Rattle.std.proofs.lemmas.List.Elements.{All-cons, All-nil}
@@ -61,7 +61,7 @@ taken_alone k at [] = All-nil (TakesAt at)
 taken_alone k at (Ok t ∷ rs) = All-cons (TakesAt at) _ _ refl (taken_alone k at rs)
 taken_alone k at (Err e ∷ rs) = taken_alone k at rs
 
--- Where there are trails, whoever took letters from a box has done nothing else at its mail: all its new lines are takes
--- from that box.
+-- Where there are trails, a worker that took letters from a box did nothing else at its mail: all its new lines are
+-- takes from that box.
 pub takes_alone : (room at : ℕ) (a b : Account Letter) (letters : List Letter) → 0 < room → Takes room at a letters b → (more : List (TrailLine Letter)) × (b.lines ≡ a.lines ++ more) × All (TakesAt at) more
 takes_alone room at a b letters some f = (lines_made a.worker (calls_taken at f.answers), f.makes.told some, taken_alone a.worker at f.answers)

@@ -58,7 +58,7 @@ decided_answer p g (Verdict.Stopped reason) (Answer.Bracket cert) ne h = let by 
 decided_answer p g (Verdict.Stopped reason) (Answer.Broken guard) ne h = λ e. (let c = h.0 in cc)
 decided_answer p g (Verdict.Broken guard) a ne h = subst (IsThreadAnswer p) (sym h) (λ e. ne (ap Verdict.Broken e))
 
--- with an assignment no persons know too few objects
+-- if there is an assignment, there is no Hall set
 module _ (p : Problem) (no_hall : (p : Problem) (persons objects : List ℕ) → IsHallSet p persons objects → (choice : List Arc) → IsAssignment p choice → ⊥) (has : HasAssignment p) where
   no_certificate : (cert : CertParts) → IsHallCertificate p cert → ⊥
   no_certificate cert h = no_hall p h.persons h.objects h.set.set has.0 has.1
@@ -73,8 +73,8 @@ module _ (p : Problem) (no_hall : (p : Problem) (persons objects : List ℕ) →
 
 -- ---- one phase more
 
--- What is known before a phase at this eps and these prices: after the phases so far, those from it on are a run from
--- the first ones.
+-- The invariant before a phase at this eps and these prices: after the phases so far, those from it on complete a run
+-- from the first ones.
 abbrev pub IsReady : Problem → Table → Limits → ℤ → List ℤ → List PhaseEnd → ℤ → List ℤ → Type 0
 IsReady p t limits first from done eps prices = (later : List PhaseEnd) (answer : Answer) → Runs p t limits eps prices later answer → Runs p t limits first from (done ++ later) answer
 

@@ -1,4 +1,4 @@
--- What comes of a thread's beginning.
+-- The result of a thread, from its start.
 use Rattle.std.proofs.Common.{◌≡◌, ℕ, ◌+◌, length, List, None, ap, sym, ◌∙◌, subst}
 use Rattle.std.specs.Prelude.{ℤ, Option}
 use Rattle.std.proofs.lemmas.List.{length-replicate}

@@ -1,4 +1,4 @@
--- How a worker goes on, and with which reason.
+-- The step of a worker, and its reason.
 use Rattle.std.proofs.Common.{◌≡◌, ◌≢◌, ℕ, Bool, true, false, cond, List, [], ◌∷◌, Some, refl, sym, ◌∙◌, subst, inl, inr}
 use Rattle.std.specs.Prelude.{Option, Result, Ok, Err}
 use Rattle.auc_letters.specs.declared.letter.Letter.{Letter}

@@ -1,4 +1,4 @@
--- What a worker took, one letter after another.
+-- The letters that a worker takes, one after another.
 use Rattle.std.proofs.Common.{◌≡◌, ℕ, ◌<◌, List, [], ◌∷◌, ◌++◌, refl, ap, sym, ◌∙◌, subst, inl, inr, append_assoc}
 use Rattle.std.specs.Prelude.{Ok, Err}
 use Rattle.std.proofs.lemmas.List.{append-nil}
@@ -27,7 +27,7 @@ pub takes_append : (at : ℕ) (rs qs : List Answer) → calls_taken at (rs ++ qs
 takes_append at [] qs = refl
 takes_append at (r ∷ rs) qs = ap (λ w. record { call = Take at; reply = take_reply r } ∷ w) (takes_append at rs qs)
 
--- what the lines tell of takes
+-- the takes that the lines show
 line_tells : (k at : ℕ) (r : Answer) → letters_in (lines_by {T = Letter} k (Take at) (take_reply r)) ≡ letter_of r
 line_tells k at (Ok (Taken.Letter s n x)) = refl
 line_tells k at (Ok Taken.Empty) = refl
@@ -62,13 +62,13 @@ took_as room at a b xs ys e f = record { answers = f.answers; letters_are = sym 
 pub took_empty : (room at : ℕ) (a b : Account Letter) (r : Answer) → SeatCalls room a (Take at) (take_reply r) b → r ≡ Ok Taken.Empty → Takes room at a [] b
 took_empty room at a b r h e = took_as room at a b (letter_of r) [] (ap letter_of e) (took_take room at a b r h)
 
--- what the seat's lines tell of them
+-- the letters that the seat's lines show
 pub took_told : (room at : ℕ) (a b : Account Letter) (xs : List Letter) → Takes room at a xs b → 0 < room → letters_in b.lines ≡ letters_in a.lines ++ xs
 took_told room at a b xs f some =
     ap letters_in (f.makes.told some)
     ∙ (letters_append a.lines (lines_made a.worker (calls_taken at f.answers)) ∙ ap (λ w. letters_in a.lines ++ w) (lines_tell a.worker at f.answers ∙ sym f.letters_are))
 
--- ---- how the worker goes on
+-- ---- the step of the worker
 
 pub after_one : (r : Answer) (step : Step) → AfterTake r step → AfterTakes (r ∷ []) step
 after_one r step h = inl (refl, h)

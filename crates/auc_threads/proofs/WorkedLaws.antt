@@ -1,4 +1,4 @@
--- The first reason of all workers, and what the trails tell of each of them.
+-- The first reason of all workers, and what the trails prove of each worker.
 use Rattle.std.proofs.Common.{◌≡◌, ◌≢◌, ◌⊎◌, ℕ, zero, suc, ◌+◌, ◌<◌, ◌≤◌, Bool, true, false, List, [], ◌∷◌, ◌++◌, map, take, length, get_or, Some, None, refl, ap, sym, ◌∙◌, subst, inl, inr, arith, All}
 use Rattle.std.specs.Prelude.{Option}
 use Rattle.std.proofs.lemmas.List.{get_or-map}
@@ -90,7 +90,7 @@ stopped_for true first end why is e = absurd (let f = sym is ∙ e in cc)
 stopped_for false None end why is e = absurd (let f = sym is ∙ e in cc)
 stopped_for false (Some w) end why is e = let f = sym is ∙ e in cc
 
--- ---- what the trails tell
+-- ---- what the trails prove
 
 pub value_at : {X Y : Type 0} (y : X → Y) (none : Y) (xs : List X) (k : ℕ) (x : X) → k < length xs → ((d : X) → get_or xs k d ≡ x) → y x ≡ get_or (map y xs) k none
 value_at y none xs k x known at = sym (get_or-map y xs k x none known ∙ ap y (at x))
@@ -99,7 +99,7 @@ value_at y none xs k x known at = sym (get_or-map y xs k x none known ∙ ap y (
 pub is_noted : (room w : ℕ) (trail : List (TrailLine Letter)) (a : Account Letter) → a.worker ≡ w → IsTrueOf room trail a → IsNoted room w trail a
 is_noted room w trail a worker truth = record { worker = worker; lines = truth.0; full = truth.1 }
 
--- what holds of a seat of each of them
+-- the account of a seat of each of them
 seat_at : {X : Type 0} (a : X → Account Letter) (room : ℕ) (trail : List (TrailLine Letter)) (xs : List X) (k : ℕ) (x : X) (w : ℕ) → All (λ y. IsTrueOf room trail (a y)) xs → k < length xs → ((d : X) → get_or xs k d ≡ x)
     → (a x).worker ≡ w → IsNoted room w trail (a x)
 seat_at a room trail xs k x w all known at worker = is_noted room w trail (a x) worker (subst (λ y. IsTrueOf room trail (a y)) (at x) (all k x known))

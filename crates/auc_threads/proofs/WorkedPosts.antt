@@ -27,11 +27,11 @@ sold = after_bid shard (pos 1) first
 first_said : says (pos 1) shard first ≡ to_person 2 1 (Letter.Award 1 0 (pos 3)) ∷ to_hub (Letter.First 0) ∷ price_told 2 0 0 (pos 3) ∷ []
 first_said = refl
 
--- a higher one: who held the object is outbid before the award
+-- a higher bid: the holder before is outbid before the award
 second_said : says (pos 1) sold (bid_of 0 0 0 (pos 5)) ≡ to_person 2 1 (Letter.Outbid 1 0 (pos 5)) ∷ to_person 2 0 (Letter.Award 0 0 (pos 5)) ∷ price_told 2 1 0 (pos 5) ∷ []
 second_said = refl
 
--- one that is too low is refused, and tells nobody else
+-- a bid that is too low is refused, and no price is sent
 low_said : says (pos 1) sold (bid_of 0 0 0 (pos 3)) ≡ to_person 2 0 (Letter.Refused 0 0 (pos 3)) ∷ []
 low_said = refl
 

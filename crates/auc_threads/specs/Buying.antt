@@ -1,4 +1,4 @@
--- What a worker of the persons does: it hears letters, and bids at the copies of prices that they have made.
+-- The work of a person worker: it takes letters, and bids at the copies of prices that they have set.
 use Rattle.std.specs.Prelude.{◌≡◌, ◌≢◌, ◌⊎◌, ℕ, ℤ, List, [], ◌∷◌, ◌++◌, Ok, Err}
 use Rattle.auc_graph.specs.Table.{Table}
 use Rattle.auc_letters.specs.declared.letter.Letter.{Letter}
@@ -13,18 +13,18 @@ use Rattle.auc_threads.specs.Taking.{AfterTakes, Takes}
 use Rattle.auc_threads.specs.Posting.{PostsAt, first_step}
 use Rattle.auc_threads.specs.Worker.{Box, Rooms, Round, Taker, Worker}
 
--- what a shard of the persons does: it hears a letter, or makes a bid
+-- the acts of a person shard: it takes a letter, or makes a bid
 pub data Act : Type 0 where
   Hear : Letter → Act
   Make : Out → Act
 
--- From s on the shard does this, one after another, and is left as n: each letter fits, and each bid is its next one.
+-- These acts, one after another, lead from the shard s to n: each letter fits, and each bid is the next one.
 abbrev pub Plays : Table → ℤ → Persons → List Act → Persons → Type 0
 Plays t eps s [] n = n ≡ s
 Plays t eps s (Hear x ∷ acts) n = (m : Persons) × OnLetter s x (Ok tt) m × Plays t eps m acts n
 Plays t eps s (Make o ∷ acts) n = (m : Persons) × NextBid t eps s (Bidding.Out o) m × Plays t eps m acts n
 
--- the letters that were heard, and the bids that were made, in order
+-- the letters taken among some acts, and below the bids made, in order
 abbrev pub heard_in : List Act → List Letter
 heard_in [] = []
 heard_in (Hear x ∷ acts) = x ∷ heard_in acts
@@ -35,8 +35,8 @@ made_in [] = []
 made_in (Hear x ∷ acts) = made_in acts
 made_in (Make o ∷ acts) = o ∷ made_in acts
 
--- How the worker goes on that asked for a bid, or took a letter, and left its shard so: its next person can't bid, for
--- this reason; or no call could be noted; or a letter doesn't fit, or tells a lower price.
+-- The step of a worker that asked for a bid, or took a letter, and left its shard as n. Its next person can't bid, for
+-- this reason; or no call could be noted; or a letter doesn't fit, or has a lower price than the copy.
 abbrev pub CantBid : Table → ℤ → Persons → Why → Type 0
 CantBid t eps n why = (n.idle ≢ []) × Stops t eps n (first_idle n) why
 
@@ -48,14 +48,13 @@ AfterActs t eps n fault Step.On = fault ≡ []
 AfterActs t eps n fault Step.Over = fault ≡ []
 AfterActs t eps n fault (Step.Stop why) = ((fault ≡ []) × CantBid t eps n why) ⊎ (((fault ≡ []) × (why ≡ Why.Trail)) ⊎ CantHear n fault why)
 
--- The worker asked for bids, and these more were made; then nobody was free, or it had enough of them, or the next
--- person can't bid.
+-- The step after asking for bids. No person was free, or the worker had enough bids, or the next person can't bid.
 abbrev pub AfterAsks : Table → ℤ → Persons → Step → Type 0
 AfterAsks t eps n Step.On = Unit {0}
 AfterAsks t eps n Step.Over = ⊥
 AfterAsks t eps n (Step.Stop why) = CantBid t eps n why
 
--- a shard, with the bids that it was asked for so far
+-- a shard, with the bids that it has been asked for so far
 pub record Asker : Type 0 where
   pub shard : Persons
   pub bids : List Out
@@ -70,7 +69,7 @@ pub record Asks (g : Round) (old new : Asker) (step : Step) : Type 0 where
   pub made : new.bids ≡ old.bids ++ made_in acts
   pub after : AfterAsks g.table g.eps new.shard step
 
--- Its shard heard the letters, but for the last one where that doesn't fit.
+-- The shard took the letters, but for the last one if that doesn't fit.
 pub record ListensTo (g : Round) (s : Persons) (letters : List Letter) (n : Persons) (step : Step) : Type 0 where
   pub acts : List Act
   pub fault : List Letter
@@ -79,15 +78,15 @@ pub record ListensTo (g : Round) (s : Persons) (letters : List Letter) (n : Pers
   pub letters_are : letters ≡ heard_in acts ++ fault
   pub after : AfterActs g.table g.eps n fault step
 
--- and the worker took them from its box
+-- the same, where the worker took the letters from its box
 pub record Listens (g : Round) (x : Box) (old new : Taker Persons) (step : Step) : Type 0 where
   pub letters : List Letter
   pub took : Takes x.room x.at old.seat letters new.seat
   pub listens : ListensTo g old.shard letters new.shard step
   pub taken : AfterTakes took.answers step
 
--- It bid and heard: it took just these letters from its box, and posted the bids in order, up to the first post that
--- ends it.
+-- The worker bid and took letters. It took exactly these letters from its box, and posted the bids in order, up to the
+-- first post that ends it.
 pub record Buys (g : Round) (r : Rooms) (at : ℕ) (old new : Worker Persons) (step : Step) : Type 0 where
   pub acts : List Act
   pub fault : List Letter
@@ -98,5 +97,5 @@ pub record Buys (g : Round) (r : Rooms) (at : ℕ) (old new : Worker Persons) (s
   pub took : Takes r.persons at old.seats.persons (heard_in acts ++ fault) new.seats.persons
   pub after : AfterActs g.table g.eps new.shard fault acts_step
   pub taken : AfterTakes took.answers acts_step
-  -- a post that ends the worker comes before what it asked for or took later
+  -- a post that ends the worker comes before anything that it asked for or took later
   pub is : step ≡ first_step posts_step acts_step

@@ -1,4 +1,4 @@
--- What the hub counts, and how it ends a phase.
+-- How the hub counts First letters, and how it ends a phase.
 use Rattle.std.specs.Prelude.{ℕ, ◌+◌, ◌≡◌, ◌<◌, ◌↔◌, ◌⊎◌, Bool, true, false, IsTrue, List, [], ◌∷◌, ◌++◌, length, Option, None, Some, Result, Ok, Err, All, count_by}
 use Rattle.auc_letters.specs.declared.letter.Letter.{Letter}
 use Rattle.auc_letters.specs.declared.letter.Why.{Why}
@@ -30,36 +30,37 @@ is_stop (Letter.Refused i j p) = false
 is_stop (Letter.Outbid i j p) = false
 is_stop (Letter.Price j p) = false
 
--- how many of the letters are First
+-- the number of First letters among some letters
 abbrev pub firsts_in : List Letter → ℕ
 firsts_in letters = count_by is_first letters
 
--- the answer gave a First
+-- the answer of a take is a First letter
 abbrev pub GaveFirst : Answer → Type 0
 GaveFirst (Ok (Taken.Letter s n x)) = is_first x ≡ true
 GaveFirst (Ok Taken.Empty) = ⊥
 GaveFirst (Ok Taken.Over) = ⊥
 GaveFirst (Err e) = ⊥
 
--- How the hub ends a phase by a letter that is no First, and its own reason: a shard has stopped, and then it has none;
--- or the letter isn't the hub's.
+-- The hub ends the phase by a letter that is no First. Either a shard has stopped, and the hub has no reason of its
+-- own; or the letter isn't for the hub.
 abbrev pub EndsFor : Letter → Option Why → Type 0
 EndsFor x why = (is_first x ≡ false) × (((is_stop x ≡ true) × (why ≡ None)) ⊎ ((is_stop x ≡ false) × (why ≡ Some Why.Stray)))
 
--- by the last answer: or no letter will come any more, and it has none; or it was turned away
+-- the hub ends the phase by the last answer: by such a letter; or no letter will come any more, and it has no reason;
+-- or its call was turned away
 abbrev pub EndsBy : Answer → Option Why → Type 0
 EndsBy (Ok (Taken.Letter s n x)) why = EndsFor x why
 EndsBy (Ok Taken.Empty) why = ⊥
 EndsBy (Ok Taken.Over) why = why ≡ None
 EndsBy (Err e) why = why ≡ Some Why.Trail
 
--- The hub of so many persons has heard this answer, and so goes on, or has counted them all, or ends the phase.
+-- The hub took this answer, for this number of persons. It goes on, or has counted all, or ends the phase.
 abbrev pub Counted : ℕ → Counting → Answer → Heard → Counting → Type 0
 Counted persons h last Heard.On n = GaveFirst last × (n.count ≡ h.count + 1) × (n.count < persons) × (n.end ≡ None)
 Counted persons h last Heard.All n = GaveFirst last × (h.count + 1 ≡ persons)
 Counted persons h last (Heard.End why) n = EndsBy last why
 
--- closes of boxes from this one on, answered so
+-- the calls that close boxes from this one on, with these answers
 abbrev pub calls_closed : ℕ → List (Result Bool TrailFull) → List Called
 calls_closed b [] = []
 calls_closed b (r ∷ rs) = record { call = Call.Close b; reply = close_reply r } ∷ calls_closed (b + 1) rs
@@ -70,9 +71,8 @@ pub record Closes (room n : ℕ) (a b : Account Letter) : Type 0 where
   pub each : length answers ≡ n
   pub makes : Makes room a (calls_closed 0 answers) b
 
--- The hub took one First after another from its box, and then the last answer, and went on after no other. It says
--- whether it took one First for each person; then it closed its box. Where it didn't, the last answer has ended the
--- phase.
+-- The hub took First letters one after another from its box, and then the last answer. It reports whether it took one
+-- First for each person, and then closed its box. If it didn't, the last answer has ended the phase.
 pub record Counts (room persons : ℕ) (a : Account Letter) (is_all : Bool) (why : Option Why) (b : Account Letter) : Type 0 where
   pub heard : List Answer
   pub last : Answer
@@ -84,7 +84,7 @@ pub record Counts (room persons : ℕ) (a : Account Letter) (is_all : Bool) (why
   pub done : is_all ≡ true → GaveFirst last × (why ≡ None)
   pub ends : is_all ≡ false → EndsBy last why
 
--- so far it took fewer, and has counted each of them
+-- so far the hub took fewer First letters than persons, and has counted each of them
 pub record CountsOn (room persons : ℕ) (h : Counting) (a b : Account Letter) : Type 0 where
   pub heard : List Answer
   pub firsts : All GaveFirst heard

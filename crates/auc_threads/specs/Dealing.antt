@@ -1,4 +1,4 @@
--- What a worker of the objects makes of the letters that it takes, and what it has to say of them.
+-- The work of an object worker: how it deals with the letters that it takes, and what it posts about them.
 use Rattle.std.specs.Prelude.{◌≡◌, ◌==◌, ℕ, ◌%◌, ℤ, not, List, [], ◌∷◌, ◌++◌, map, filter, All, if◌then◌else◌}
 use Rattle.std.specs.List.{range_with_len}
 use Rattle.auc_letters.specs.declared.letter.Letter.{Letter}
@@ -14,23 +14,23 @@ use Rattle.auc_threads.specs.Taking.{AfterTakes, Takes}
 use Rattle.auc_threads.specs.Posting.{Says, first_step}
 use Rattle.auc_threads.specs.Worker.{Box, Rooms, Taker, Worker, box, dealer_of}
 
--- the shards below n but one, in rising order
+-- the numbers of the shards below n but this one, in rising order
 abbrev pub others : ℕ → ℕ → List ℕ
 others n one = filter (λ q. not (q == one)) (range_with_len 0 n)
 
--- the present price of an object, told to those of the first n shards of the persons
+-- letters with the present price of an object to the first n person shards, but one
 abbrev pub prices_told : Objects → ℕ → ℕ → ℕ → List Out
 prices_told s n one object = map (λ q. price_told s.persons q object (price_of s object)) (others n one)
 
--- What a shard says of a bid: its answers in order, and then, where it was accepted, the new price to each shard of the
--- persons but the bidder's.
+-- The letters of a shard about a bid. They are its answers in order, and then, if it was accepted, the new price to
+-- each person shard but the bidder's.
 abbrev pub says : ℤ → Objects → Bid → List Out
 says eps s bid =
     answers s.person_shards eps (sale_of s bid.object) bid
     ++ (if is_accepted eps (sale_of s bid.object) bid then prices_told (after_bid s eps bid) s.person_shards (bid.person % s.person_shards)
     bid.object else [])
 
--- the shard when bids were dealt with, one after another, and what it says of them
+-- the shard after some bids, one after another, and below the letters about them
 abbrev pub after_bids : ℤ → Objects → List Bid → Objects
 after_bids eps s [] = s
 after_bids eps s (bid ∷ bids) = after_bids eps (after_bid s eps bid) bids
@@ -44,8 +44,8 @@ pub record Fits (s : Objects) (bid : Bid) : Type 0 where
   pub owns : Owns s bid.object
   pub amount : IsPrice bid.amount
 
--- How a worker goes on after letters of which the last ones don't fit: where there is none it goes on, or none will
--- come any more, or no call could be noted; and it stops at the first one.
+-- The step of a worker after its letters, of which the last one may not fit. If all fit, it goes on, or no letter will
+-- come any more, or no call could be noted. It stops at the first one that doesn't fit.
 abbrev pub AfterLetters : Objects → List Letter → Step → Type 0
 AfterLetters t stray Step.On = stray ≡ []
 AfterLetters t stray Step.Over = stray ≡ []
@@ -58,8 +58,8 @@ AfterLetters t stray (Step.Stop Why.Posts) = ⊥
 AfterLetters t stray (Step.Stop Why.Mail) = ⊥
 AfterLetters t stray (Step.Stop Why.Fell) = ⊥
 
--- The letters are bids that fit the shard, which dealt with them one after another, and then perhaps one that is none.
--- This is what it has to say.
+-- The letters are bids that fit the shard, which dealt with them one after another, and then perhaps one that doesn't
+-- fit. These are the letters that it has to post.
 pub record DealsWith (eps : ℤ) (s : Objects) (letters : List Letter) (said : List Out) (t : Objects) (step : Step) : Type 0 where
   pub bids : List Bid
   pub stray : List Letter
@@ -69,19 +69,19 @@ pub record DealsWith (eps : ℤ) (s : Objects) (letters : List Letter) (said : L
   pub said_are : said ≡ says_all eps s bids
   pub after : AfterLetters t stray step
 
--- and the worker took them from its box
+-- the same, where the worker took the letters from its box
 pub record Deals (eps : ℤ) (x : Box) (old : Taker Objects) (said : List Out) (new : Taker Objects) (step : Step) : Type 0 where
   pub letters : List Letter
   pub took : Takes x.room x.at old.seat letters new.seat
   pub dealt : DealsWith eps old.shard letters said new.shard step
   pub taken : AfterTakes took.answers step
 
--- It dealt with letters, and posted what it had to say of them.
+-- The worker dealt with letters, and posted what it had to.
 pub record Serves (eps : ℤ) (r : Rooms) (at : ℕ) (old new : Worker Objects) (step : Step) : Type 0 where
   pub said : List Out
   pub took_step : Step
   pub said_step : Step
   pub deals : Deals eps (box r.objects at) (dealer_of old) said (dealer_of new) took_step
   pub posts : Says r old.seats said new.seats said_step
-  -- a post that ends the worker comes before what it took later
+  -- a post that ends the worker comes before anything that it took later
   pub is : step ≡ first_step said_step took_step

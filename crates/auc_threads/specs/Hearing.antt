@@ -1,4 +1,4 @@
--- What a shard of the persons hears of prices.
+-- The prices that a person shard takes.
 use Rattle.std.specs.Prelude.{◌≡◌, ◌⊎◌, ℕ, ◌<◌, ℤ, ◌<ℤ◌, List, [], ◌∷◌, ◌++◌, length, Contains}
 use Rattle.auc_letters.specs.declared.letter.Letter.{Letter}
 use Rattle.auc_graph.specs.Table.{Table, row_of}
@@ -6,7 +6,7 @@ use Rattle.auc_persons.specs.Persons.{Persons, NeverFall, copy_of}
 use Rattle.auc_threads.specs.Taking.{Takes}
 use Rattle.auc_threads.specs.Worker.{Box, Taker}
 
--- the letter tells this price of the object
+-- the letter has this price of the object
 abbrev pub Tells : ℕ → ℤ → Letter → Type 0
 Tells j p (Letter.Award i k q) = (k ≡ j) × (q ≡ p)
 Tells j p (Letter.Refused i k q) = (k ≡ j) × (q ≡ p)
@@ -16,11 +16,11 @@ Tells j p (Letter.Bid i a k q) = ⊥
 Tells j p (Letter.First k) = ⊥
 Tells j p (Letter.Stop y) = ⊥
 
--- some letter tells it
+-- one of the letters has this price of the object
 abbrev pub IsTold : List Letter → ℕ → ℤ → Type 0
 IsTold letters j p = (x : Letter) × Contains letters x × Tells j p x
 
--- one of the letters tells a price of an object below the one at the start, or below one that an earlier letter tells
+-- one of the letters has a price of an object below the one at the start, or below that of an earlier letter
 pub record Falls (start : ℕ → ℤ) (letters : List Letter) : Type 0 where
   pub front : List Letter
   pub letter : Letter
@@ -31,14 +31,14 @@ pub record Falls (start : ℕ → ℤ) (letters : List Letter) : Type 0 where
   pub tells : Tells object price letter
   pub below : (price <ℤ start object) ⊎ ((earlier : ℤ) × IsTold front object earlier × (price <ℤ earlier))
 
--- A shard of the persons heard letters: each of its copies is as before or told by one of them, and no copy falls.
--- Where the shard stops for a fall, one of them tells a lower price.
+-- A person shard took letters. Each of its copies is as before or from one of the letters, and no copy falls. Where the
+-- shard stops for a fall, one of the letters has a lower price.
 pub record HearsOf (s : Persons) (letters : List Letter) (t : Persons) (fell : Type 0) : Type 0 where
   pub heard : (j : ℕ) → (copy_of t j ≡ copy_of s j) ⊎ IsTold letters j (copy_of t j)
   pub rise : NeverFall s.copies t.copies
   pub falls : fell → Falls (copy_of s) letters
 
--- and took them from its box
+-- the same, where it took the letters from its box
 pub record Hears (x : Box) (old new : Taker Persons) (fell : Type 0) : Type 0 where
   pub letters : List Letter
   pub took : Takes x.room x.at old.seat letters new.seat

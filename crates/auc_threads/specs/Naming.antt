@@ -4,7 +4,7 @@ use Rattle.auc_phases.specs.Limits.{AreLimits, nodes_or}
 use Rattle.auc_phases.specs.declared.limits.Limits.{Limits}
 use Rattle.auc_book.specs.declared.limits.TheConstants.{MOST_ROOM}
 
--- how many boxes each mail has, where there are so many shards of each kind
+-- the number of boxes of each mail, for this number of shards of each kind
 pub record AreBoxes (objects persons hub shards : ℕ) : Type 0 where
   pub few : shards ≤ 16
   pub some : 1 ≤ shards
@@ -12,11 +12,11 @@ pub record AreBoxes (objects persons hub shards : ℕ) : Type 0 where
   pub persons_boxes : persons ≡ shards
   pub hub_boxes : hub ≡ 1
 
--- how many workers there are: the shards of the persons, those of the objects, and the hub
+-- the number of workers: the person shards, the object shards, and the hub
 abbrev pub workers_of : ℕ → ℕ
 workers_of shards = 2 * shards + 1
 
--- how many letters may wait in each mail, by the limits and the number of persons
+-- the number of letters that may wait in each mail, by the limits and the number of persons
 abbrev pub objects_nodes : Limits → ℕ → ℕ
 objects_nodes limits persons = nodes_or limits.nodes persons
 
@@ -26,7 +26,7 @@ persons_nodes limits persons = nodes_or limits.nodes (4 * persons)
 abbrev pub hub_nodes : Limits → ℕ → ℕ
 hub_nodes limits persons = nodes_or limits.nodes (persons + 2 * limits.shards)
 
--- the numbers that a mail's name tells
+-- the numbers that a mail's name fixes
 pub record Numbers : Type 0 where
   pub boxes : ℕ
   pub workers : ℕ
@@ -37,7 +37,7 @@ pub record Numbers : Type 0 where
 abbrev pub numbers : ℕ → ℕ → ℕ → ℕ → ℕ → Numbers
 numbers boxes workers nodes most room = record { boxes = boxes; workers = workers; nodes = nodes; most = most; room = room }
 
--- those of one mail are these: its boxes and nodes, and by the limits its workers, posts and room
+-- the numbers of one mail: these boxes and nodes, and by the limits its workers, posts and room
 pub record IsNamed (n : Numbers) (boxes nodes : ℕ) (limits : Limits) : Type 0 where
   pub boxes_are : n.boxes ≡ boxes
   pub workers_are : n.workers ≡ workers_of limits.shards
@@ -45,7 +45,7 @@ pub record IsNamed (n : Numbers) (boxes nodes : ℕ) (limits : Limits) : Type 0 
   pub most_is : n.most ≡ limits.posts
   pub room_is : n.room ≡ limits.audit
 
--- those of the three mails of a phase of so many persons
+-- the numbers of the three mails of a phase, for this number of persons
 pub record AreNamed (limits : Limits) (persons : ℕ) (o p h : Numbers) : Type 0 where
   pub objects : IsNamed o limits.shards (objects_nodes limits persons) limits
   pub persons_mail : IsNamed p limits.shards (persons_nodes limits persons) limits

@@ -1,4 +1,4 @@
--- What a worker posts, what it is answered, and how it goes on.
+-- The posts of a worker, their answers, and its next step.
 use Rattle.std.specs.Prelude.{◌≡◌, ◌≢◌, ◌⊎◌, ℕ, Bool, true, false, not, List, [], ◌∷◌, filter, Option, Some, None, Result, Ok, Err, if◌then◌else◌}
 use Rattle.auc_letters.specs.declared.letter.Letter.{Letter}
 use Rattle.auc_letters.specs.declared.letter.Why.{Why}
@@ -18,12 +18,12 @@ use Rattle.auc_threads.specs.declared.calls.Step.{Step}
 use Rattle.auc_threads.specs.Calling.{Called, Makes}
 use Rattle.auc_threads.specs.Worker.{Accounts, Rooms}
 
--- An open box didn't accept a letter: a Price may be dropped, for any other one the worker stops, for the same reason
--- as the world.
+-- The step after an open box has refused a letter. A Price may be dropped; for any other letter the worker stops, for
+-- the same reason as the world.
 abbrev pub step_without : Letter → PostRefused → Step
 step_without x r = if is_price x then Step.On else Step.Stop (reason r)
 
--- How a worker goes on when the post of a letter was answered so: a closed box means that the phase is over.
+-- The step after the answer to a post; a closed box means that the phase is over.
 abbrev pub step_after : Letter → Result ℕ CallRefused → Step
 step_after x (Ok n) = Step.On
 step_after x (Err refused.TrailFull) = Step.Stop Why.Trail
@@ -39,8 +39,8 @@ pub record Sent : Type 0 where
 abbrev pub step_of : Sent → Step
 step_of x = step_after x.out.letter x.answer
 
--- These letters had to be posted, in order. Each was, and all of them were, or the last post is the first that ends the
--- worker.
+-- The posts of these letters, in order. Either all were posted, and the worker goes on; or the last post made is the
+-- first that ends it.
 abbrev pub Posts : List Out → List Sent → Step → Type 0
 Posts [] [] step = step ≡ Step.On
 Posts [] (x ∷ xs) step = ⊥
@@ -57,7 +57,7 @@ abbrev pub calls_sent : ℕ → List Sent → List Called
 calls_sent k [] = []
 calls_sent k (x ∷ xs) = record { call = post_of k x.out; reply = post_reply x.answer } ∷ calls_sent k xs
 
--- The worker posted to one mail what had to be posted, and so goes on.
+-- The worker posted these letters to one mail, up to a post that ends it, with this step.
 pub record PostsAt (room : ℕ) (a : Account Letter) (wanted : List Out) (b : Account Letter) (step : Step) : Type 0 where
   pub posts : List Sent
   pub posted : Posts wanted posts step
@@ -75,39 +75,40 @@ to_the_hub posts = filter (λ x. is_to_hub x.out.to) posts
 abbrev pub to_shards : List Sent → List Sent
 to_shards posts = filter (λ x. not (is_to_hub x.out.to)) posts
 
--- The same to two mails, that of the persons and the hub's, one letter after another.
+-- The same to two mails, the persons' and the hub's, one letter after another.
 pub record Says (r : Rooms) (old : Accounts) (wanted : List Out) (new : Accounts) (step : Step) : Type 0 where
   pub posts : List Sent
   pub posted : Posts wanted posts step
   pub persons : Makes r.persons old.persons (calls_sent old.persons.worker (to_shards posts)) new.persons
   pub hub : Makes r.hub old.hub (calls_sent old.hub.worker (to_the_hub posts)) new.hub
 
--- the first of two steps that doesn't go on
+-- the first of two steps that ends the worker, if one does
 abbrev pub first_step : Step → Step → Step
 first_step Step.On later = later
 first_step Step.Over later = Step.Over
 first_step (Step.Stop why) later = Step.Stop why
 
--- the reason of a worker that ends so
+-- the reason of a worker that ends with this step, if it has one
 abbrev pub why_of : Step → Option Why
 why_of Step.On = None
 why_of Step.Over = None
 why_of (Step.Stop why) = Some why
 
--- A worker that stops tells the hub why; where that is refused, for whatever reason, it closes the hub's box.
+-- A worker that stops posts its reason to the hub. If that is refused, for any reason, it closes the hub's box.
 abbrev pub calls_stopped : ℕ → Why → Result ℕ CallRefused → Result Bool TrailFull → List Called
 calls_stopped k why (Ok n) closed = record { call = post_of k (to_hub (Letter.Stop why)); reply = post_reply (Ok n) } ∷ []
 calls_stopped k why (Err e) closed =
     record { call = post_of k (to_hub (Letter.Stop why)); reply = post_reply (Err e) }
     ∷ record { call = Call.Close 0; reply = close_reply closed } ∷ []
 
--- the calls at the hub's mail of a worker that ends so
+-- the calls at the hub's mail of a worker that ends with this step
 abbrev pub AreLast : ℕ → Step → List Called → Type 0
 AreLast k Step.On calls = calls ≡ []
 AreLast k Step.Over calls = calls ≡ []
 AreLast k (Step.Stop why) calls = (posted : Result ℕ CallRefused) × (closed : Result Bool TrailFull)
     × (calls ≡ calls_stopped k why posted closed)
 
+-- the calls at the hub's mail with which a worker ends
 pub record Ends (room : ℕ) (a : Account Letter) (step : Step) (b : Account Letter) : Type 0 where
   pub calls : List Called
   pub makes : Makes room a calls b

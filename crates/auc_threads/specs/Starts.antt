@@ -1,4 +1,4 @@
--- What the threads begin with, and what they give back.
+-- The start of each thread, and its result.
 use Rattle.std.specs.Prelude.{◌≡◌, ◌≢◌, ◌+◌, ◌*◌, ℕ, ℤ, List, length, Option, Some, vec_len}
 use Rattle.auc_letters.specs.declared.letter.Letter.{Letter}
 use Rattle.auc_letters.specs.declared.letter.Why.{Why}
@@ -27,13 +27,13 @@ use Rattle.auc_threads.specs.Worker.{AreNewSeats, AreSeatsOf, Rooms, Round, Sett
 
 -- ---- the objects
 
--- what the worker of the shard number k begins with
+-- the start of the object worker of shard k
 pub record IsSellerStart (g : Setting) (k : ℕ) (w : Worker Objects) : Type 0 where
   pub shard : w.shard ≡ (new_seller g k).shard
   pub seats : AreNewSeats (g.limits.shards + k) w.seats
 
--- What comes of a worker: it dealt with bids from the box of its shard's number and said what it had to, and at its end
--- tells the hub why.
+-- The work of an object worker: it dealt with bids from the box of its shard's number and posted the letters about
+-- them. At its end it posts its reason to the hub.
 pub record IsObjectWork (eps : ℤ) (r : Rooms) (old new : Worker Objects) (why : Option Why) : Type 0 where
   pub step : Step
   pub before : Account Letter
@@ -42,12 +42,12 @@ pub record IsObjectWork (eps : ℤ) (r : Rooms) (old new : Worker Objects) (why 
   pub ends : Ends r.hub before step new.seats.hub
   pub why_is : why ≡ why_of step
 
--- what the thread number k promises: it works at eps, from such a beginning
+-- the promise of thread k: it works at this eps, from such a start
 pub record IsObjectPromise {O P H : Type 0} (g : Setting) (k : ℕ) (p : Sold O P H) : Type 0 where
   pub at_eps : p.eps ≡ g.eps
   pub begins : IsSellerStart g k (seller_of p.start.value)
 
--- what it gives back
+-- the result of the thread
 pub record IsObjectResult (g : Setting) (r : Rooms) (k : ℕ) (w : Worker Objects) (why : Option Why) : Type 0 where
   pub seats : AreSeatsOf (g.limits.shards + k) w.seats
   pub sells : Sells g.eps r.objects (dealer_of (new_seller g k)) (dealer_of w)
@@ -61,12 +61,13 @@ pub record IsPersonStart (g : Setting) (k : ℕ) (w : Worker Persons) : Type 0 w
   pub shard : w.shard ≡ (new_buyer g k).shard
   pub seats : AreNewSeats k w.seats
 
--- and with lists that are right whatever the copies are
+-- the start of a person worker with candidate lists that are correct at any copies
 pub record IsBuyerStart (g : Setting) (k : ℕ) (lists : List Listed) (w : Worker Persons) : Type 0 where
   pub begins : IsPersonStart g k w
   pub kept : (copies : List ℤ) → Kept g.table copies lists
 
--- What comes of a worker: it bid and heard, by the box of its shard's number, and at its end tells the hub why.
+-- The work of a person worker: it bid and took letters, from the box of its shard's number. At its end it posts its
+-- reason to the hub.
 pub record IsPersonWork (g : Round) (r : Rooms) (old new : Worker Persons) (why : Option Why) : Type 0 where
   pub step : Step
   pub buys : Buys g r old.shard.shard old new step
@@ -99,7 +100,7 @@ HaveBought g r xs = Placed (λ k x. IsPersonResult g r k (bought_of x) x.why) 0 
 abbrev pub HaveSold : {O P H : Type 0} → Setting → Rooms → List (ObjectWork O P H) → Type 0
 HaveSold g r xs = Placed (λ k x. IsObjectResult g r k (sold_of x) x.why) 0 xs
 
--- what the workers of a phase begin with: those of each shard, and the hub
+-- the start of the workers of a phase: those of each shard, and the hub
 pub record AreStarts {O P H : Type 0} (g : Setting) (s : Starts O P H) : Type 0 where
   pub persons : AreBuyers g s.persons.items
   pub persons_many : vec_len s.persons ≡ g.limits.shards
@@ -107,7 +108,7 @@ pub record AreStarts {O P H : Type 0} (g : Setting) (s : Starts O P H) : Type 0 
   pub objects_many : vec_len s.objects ≡ g.limits.shards
   pub hub : AreNewSeats (2 * g.limits.shards) (accounts_of s.hub)
 
--- what they give back: the hub has counted, and has closed all boxes
+-- the results of all workers: the hub has counted, and has closed all boxes
 pub record AreWorks {O P H : Type 0} (g : Setting) (r : Rooms) (w : Works O P H) : Type 0 where
   pub persons : HaveBought g r w.persons.items
   pub persons_many : vec_len w.persons ≡ g.limits.shards

@@ -1,4 +1,4 @@
--- What each worker of a phase did, by its lines in the three trails, and so how the phase ended.
+-- The work of each worker of a phase, by its lines in the three trails, and the end of the phase that follows.
 use Rattle.std.specs.Prelude.{◌≡◌, ◌<◌, ◌≤◌, ◌+◌, ◌*◌, ℕ, Bool, true, false, List, [], ◌∷◌, ◌++◌, Option, Some, None, length, slice_index_or}
 use Rattle.auc_letters.specs.declared.letter.Letter.{Letter}
 use Rattle.auc_letters.specs.declared.letter.Why.{Why}
@@ -14,25 +14,25 @@ use Rattle.auc_threads.specs.Counting.{Closes, Counts}
 use Rattle.auc_threads.specs.Starts.{IsObjectWork, IsPersonWork}
 use Rattle.auc_threads.specs.Worker.{Accounts, Rooms, Setting, Worker, new_buyer, new_seller, rooms, round}
 
--- The lines of the worker's seat at a mail are noted: the trail has just these, and no other call was turned away,
--- unless the trail is full.
+-- The account of a worker's seat at a mail agrees with the trail: the trail has exactly these lines of the worker, and
+-- other calls were turned away only if the trail is full.
 pub record IsNoted (room w : ℕ) (trail : List (TrailLine Letter)) (a : Account Letter) : Type 0 where
   pub worker : a.worker ≡ w
   pub lines : Agrees trail a
   pub full : IsTurnedByFull room trail a
 
--- at the three mails
+-- the same at the three mails
 pub record AreNoted (room w : ℕ) (trails : Trails) (a : Accounts) : Type 0 where
   pub at_objects : IsNoted room w trails.objects a.objects
   pub at_persons : IsNoted room w trails.persons a.persons
   pub at_hub : IsNoted room w trails.hub a.hub
 
--- each trail has room for as many lines as the limits say
+-- trails with room for as many lines as the limits say
 abbrev pub audited : Limits → Rooms
 audited limits = rooms limits.audit limits.audit limits.audit
 
--- The worker of the shard number k of the persons began with nothing, and this is its work. It posted so many bids, and
--- no more than the limit.
+-- The person worker of shard k began with a new shard, and this is its work. It posted this number of bids, and at most
+-- the limit.
 pub record IsBuyer (g : Setting) (trails : Trails) (bids k : ℕ) (why : Option Why) : Type 0 where
   pub left : Worker Persons
   pub work : IsPersonWork (round g.table g.eps) (audited g.limits) (new_buyer g k) left why
@@ -41,13 +41,13 @@ pub record IsBuyer (g : Setting) (trails : Trails) (bids k : ℕ) (why : Option 
   pub few : length left.seats.objects.lines ≤ g.limits.bids
   pub spent : why ≡ Some Why.Bids → length left.seats.objects.lines ≡ g.limits.bids
 
--- The worker of the shard number k of the objects.
+-- The object worker of shard k began with a new shard, and this is its work.
 pub record IsSeller (g : Setting) (trails : Trails) (k : ℕ) (why : Option Why) : Type 0 where
   pub left : Worker Objects
   pub work : IsObjectWork g.eps (audited g.limits) (new_seller g k) left why
   pub noted : AreNoted g.limits.audit (g.limits.shards + k) trails left.seats
 
--- The hub, which has counted a First for each person or not. It closed all boxes.
+-- The hub, by whether it has counted a First for each person. It closed all boxes.
 pub record IsHub (g : Setting) (trails : Trails) (is_all : Bool) (why : Option Why) : Type 0 where
   pub left : Accounts
   pub counts : Counts g.limits.audit (length g.table.rows) (new_account (2 * g.limits.shards)) is_all why left.hub
@@ -61,14 +61,14 @@ first_some [] = None
 first_some (None ∷ whys) = first_some whys
 first_some (Some why ∷ whys) = Some why
 
--- how a phase ends: no reason counts where everyone has an object
+-- the end of a phase: no reason counts if each person has an object
 abbrev pub end_by : Bool → Option Why → Option End
 end_by true why = Some End.All
 end_by false None = None
 end_by false (Some why) = Some (End.Stopped why)
 
--- What the trails tell of the workers, each with its reason to stop, if it has one; the first of these counts, of the
--- persons, the objects and the hub.
+-- What the trails prove of the workers, each with its reason to stop, if it has one. The first reason counts: of the
+-- persons, then the objects, then the hub.
 pub record AreWorked (g : Setting) (trails : Trails) (bids : List ℕ) (end : Option End) : Type 0 where
   pub person_reasons : List (Option Why)
   pub object_reasons : List (Option Why)

@@ -1,4 +1,4 @@
--- What contracts see of a worker: its shard, and its seats at the three mails; and what a phase is run on.
+-- What contracts see of a worker: its shard, its seats at the three mails, and the parameters of its phase.
 use Rattle.std.specs.Prelude.{◌≡◌, ℕ, ◌+◌, ◌*◌, ℤ, List, length}
 use Rattle.auc_graph.specs.Table.{Table}
 use Rattle.auc_letters.specs.declared.letter.Letter.{Letter}
@@ -38,7 +38,7 @@ round t eps = record { table = t; eps = eps }
 
 -- ---- seats
 
--- what a worker's seats at the three mails tell
+-- the accounts of a worker's seats at the three mails
 pub record Accounts : Type 0 where
   pub objects : Account Letter
   pub persons : Account Letter
@@ -47,7 +47,7 @@ pub record Accounts : Type 0 where
 abbrev pub accounts_of : {O P H : Type 0} → WorkerSeats O P H → Accounts
 accounts_of seats = record { objects = seats.objects; persons = seats.persons; hub = seats.hub }
 
--- those of the worker number k, who has called nothing
+-- the accounts of worker k before any call
 abbrev pub new_accounts : ℕ → Accounts
 new_accounts k = record { objects = new_account k; persons = new_account k; hub = new_account k }
 
@@ -56,13 +56,13 @@ pub record AreNewSeats (k : ℕ) (a : Accounts) : Type 0 where
   pub persons_seat : a.persons ≡ new_account k
   pub hub_seat : a.hub ≡ new_account k
 
--- they are the worker's
+-- the accounts are those of worker k
 pub record AreSeatsOf (k : ℕ) (a : Accounts) : Type 0 where
   pub objects_seat : a.objects.worker ≡ k
   pub persons_seat : a.persons.worker ≡ k
   pub hub_seat : a.hub.worker ≡ k
 
--- how many lines the trails of the three mails have room for
+-- the number of lines for which the trails of the three mails have room
 pub record Rooms : Type 0 where
   pub objects : ℕ
   pub persons : ℕ
@@ -71,7 +71,7 @@ pub record Rooms : Type 0 where
 abbrev pub rooms : ℕ → ℕ → ℕ → Rooms
 rooms objects persons hub = record { objects = objects; persons = persons; hub = hub }
 
--- a box of a mail whose trails have room for so many lines
+-- a box of a mail, with the number of lines for which its trail has room
 pub record Box : Type 0 where
   pub room : ℕ
   pub at : ℕ
@@ -81,7 +81,7 @@ box room at = record { room = room; at = at }
 
 -- ---- workers
 
--- a shard of this kind, with its worker's seat at the mail that it takes from
+-- a shard of this kind, with its worker's seat at the mail from which it takes
 pub record Taker (S : Type 0) : Type 0 where
   pub shard : S
   pub seat : Account Letter
@@ -100,7 +100,7 @@ buyer_of x = record { shard = x.buyer.shard; seats = accounts_of x.seats }
 abbrev pub bought_of : {O P H : Type 0} → PersonWork O P H → Worker Persons
 bought_of x = record { shard = x.shard; seats = accounts_of x.seats }
 
--- with the seat that it hears by, and the one that it takes bids by
+-- the worker with the one seat from which it takes letters, and below the one from which it takes bids
 abbrev pub listener_of : Worker Persons → Taker Persons
 listener_of w = taker w.shard w.seats.persons
 
@@ -117,7 +117,7 @@ sold_of x = record { shard = x.shard; seats = accounts_of x.seats }
 abbrev pub with_hub : {S : Type 0} → Worker S → Account Letter → Worker S
 with_hub w a = record { shard = w.shard; seats = record { objects = w.seats.objects; persons = w.seats.persons; hub = a } }
 
--- what the worker of the shard number k of the persons, and that of the objects, begins with
+-- the start of the person worker of shard k, and below of the object worker
 abbrev pub new_buyer : Setting → ℕ → Worker Persons
 new_buyer g k = record {
   shard = new_persons g.limits.shards (length g.table.rows) g.limits.bids g.prices k;

@@ -18,7 +18,7 @@ use Rattle.auc_model.proofs.Reached.{reached_turn}
 use Rattle.auc_world.specs.Alone.{Alone, AreFirsts, Shows, end_at, lane, one_box}
 use Rattle.auc_world.proofs.AloneMails.{gives_nothing, step_at, take_second}
 
--- what counting comes to
+-- the result of counting
 pub record CountEnds (g : Phase) (allowed most : ℕ) (w : World) (t : Alone) : Type 0 where
   pub world : World
   pub reply : TurnReply

@@ -1,4 +1,4 @@
--- The end of a round with one shard of each kind: the only shard of the persons hears, and the hub counts.
+-- The end of a round with one shard of each kind: the only person shard takes a letter, and the hub counts.
 use Rattle.std.proofs.Common.{ℕ, ◌+◌, ◌*◌, ◌<◌, ◌≡◌, refl, arith, List, [], ◌∷◌, ◌++◌, None, length, get_or, set, cond, sym, ap, subst, ◌∙◌, length-set, append-nil}
 use Rattle.std.specs.Prelude.{ℤ, pos}
 use Rattle.std.proofs.lemmas.Bool.{eq-eqb, ne_eqb}
@@ -21,7 +21,7 @@ use Rattle.auc_world.specs.Alone.{Alone, AreTold, IsTold, Shows, freed_by, lane,
 use Rattle.auc_world.proofs.AloneMails.{step_at, take_second}
 use Rattle.auc_world.proofs.AloneSales.{set_shows}
 
--- what hearing comes to
+-- the result of taking a letter
 pub record HearEnds (g : Phase) (allowed most : ℕ) (w : World) (firsts : ℕ) (t : Alone) : Type 0 where
   pub world : World
   pub reply : TurnReply
@@ -45,7 +45,7 @@ module _ (g : Phase) (one : g.shards ≡ 1) (small : g.persons < nobody) (allowe
 
   -- a letter waits
   module _ (t : Told) (ts : List Told) (first : s.told ≡ t ∷ ts) where
-    -- what is kept after it
+    -- the state after it
     abbrev after : Alone
     after = record s { copies = set s.copies t.object t.price; told = ts; idle = s.idle ++ freed_by t }
 
@@ -67,7 +67,7 @@ module _ (g : Phase) (one : g.shards ≡ 1) (small : g.persons < nobody) (allowe
       turn1 : Turned g w (Turn.PersonTake 0) TurnReply.Moved w1
       turn1 = PersonTakeTurn.hears 1 (k + 1) l p1 known takes fits.0 fits.1 refl refl
 
-      -- the world where so stand a person's state, the copies and the free persons
+      -- the world with these states of persons, these copies and these free persons
       abbrev behind : (ℕ → PersonState) → (ℕ → ℕ → ℤ) → (ℕ → List ℕ) → World
       behind state copy idle = record w { persons_mail = p1; state = state; copy = copy; idle = idle }
 

@@ -35,7 +35,7 @@ use Rattle.auc_world.proofs.AloneSales.{SaleEnds, bid_ends}
 use Rattle.auc_world.proofs.Distinct.{at_most, occurs_here}
 use Rattle.auc_world.proofs.RoundLaws.{plays_join, two_plays}
 
--- what waits for the persons fits the world
+-- the notices that wait for the persons fit the world
 pub record TellsRight (g : Phase) (s : Alone) (t : Told) : Type 0 where
   pub object : t.object < g.objects
   pub price : IsPrice t.price
@@ -43,7 +43,7 @@ pub record TellsRight (g : Phase) (s : Alone) (t : Told) : Type 0 where
   pub freed : (t.freed ≡ nobody) ⊎ (t.freed < g.persons)
   pub room : length (heard s t).idle ≤ g.persons
 
--- somebody is without an object before the last one is sold
+-- some person is without an object before the last one is sold
 pub not_ended : (count persons : ℕ) → count < persons → end_at count persons ≡ None
 not_ended count persons l = ap (λ b. cond b (Some End.All) None) (ne_eqb count persons (λ same. omega (arith, l, same)))
 
@@ -77,7 +77,7 @@ module _ (g : Phase) (one : g.shards ≡ 1) (small : g.persons < nobody) (start 
     unsold = ends.unsold;
   }
 
-  -- the only shard of the persons bids, and the only one of the objects answers
+  -- the only person shard bids, and the only object shard answers
   pub sells : (bid : Bid) (arc : RowArc) → Going g start allowed most s → s.count < g.persons → s.idle ≡ bid.person ∷ drop 1 s.idle → s.bids ≢ 0
       → arc.object ≡ bid.object → arc.arc ≡ bid.arc → IsBid (scale g) g.spread g.eps (copy_in s.copies) (g.row bid.person) arc bid.amount → bid.amount ≤ℤ pos (2 ^ 61)
       → Halfway g start allowed most (sold g.eps s bid)
@@ -86,7 +86,7 @@ module _ (g : Phase) (one : g.shards ≡ 1) (small : g.persons < nobody) (start 
       let ends = bid_ends g one allowed most enough s going.world going.reached going.shows (unended going more) bid.person arc bid.amount first left bids high more in
       halfway_by going more (sold g.eps s bid) (subst (λ (b : Bid). SaleEnds g allowed most going.world (sold g.eps s b)) same ends)
 
-  -- nobody is free
+  -- no person is free
   pub rests : Going g start allowed most s → s.count < g.persons → s.idle ≡ [] → Halfway g start allowed most s
   rests going more none =
       let w = going.world in
@@ -127,7 +127,7 @@ module _ (g : Phase) (one : g.shards ≡ 1) (small : g.persons < nobody) (start 
         end = counts.end;
       }
 
-  -- the only shard of the persons hears, and the hub counts
+  -- the only person shard takes a letter, and the hub counts
   pub hears : (t : Told) → Halfway g start allowed most s → s.told ≡ t ∷ drop 1 s.told → Going g start allowed most (heard s t)
   hears t half first =
       let ends = hearing g one small allowed most s half.world half.reached half.firsts half.shows half.still t (drop 1 s.told) first in
@@ -147,7 +147,7 @@ module _ (g : Phase) (one : g.shards ≡ 1) (small : g.persons < nobody) (start 
       let below = (of_every_schedule g going.world going.reached).1 0 j in
       subst IsPrice (going.shows.copy j) (record { low = low; high = omega (arith, ints, below, high) })
 
-  -- who is free stands there once
+  -- each free person is there once
   idle_fits : Going g start allowed most s → length s.idle ≤ g.persons
   idle_fits going =
       let kept = kept_reached g going.world going.reached in

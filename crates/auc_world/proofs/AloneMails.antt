@@ -66,7 +66,7 @@ room_for g v reached usual h o rest known first other =
     let k = kept_reached g v reached in
     finds_room g v k.lost reached.lawful k.inv k.shapes (room_reached g v reached usual) h o rest known first other
 
--- ---- what is told
+-- ---- notices
 
 pub told_one : (ts : List Told) (ls : List Letter) (t : Told) (l : Letter) → AreTold ts ls → IsTold t l → AreTold (ts ++ t ∷ []) (ls ++ l ∷ [])
 told_one [] [] t l all here = (here, tt)
@@ -82,8 +82,8 @@ told_many (u ∷ ts) (m ∷ ls) all = ap suc (told_many ts ls all.1)
 
 -- ---- a letter to the only shard of the persons
 
--- The shard of the objects posts a letter of its outbox, which finds room: by a world with that mail of the persons, so
--- many letters of which were heard.
+-- The object shard posts a letter of its outbox, which finds room. The world has this mail of the persons, of which
+-- this number of letters was taken.
 module _ (g : Phase) (one : g.shards ≡ 1) (most : ℕ) (v : World) (reached : Reached g v) (usual : UsualNodes g v) (l : Letter) (more rest : List Out) (other : is_price l ≡ false) (k : ℕ) (ls : List Letter)
     (mail : v.persons_mail ≡ one_box (4 * g.persons) most blank_lane (lane k ls)) (few : k + length ls < most) (first : v.object_out 0 ≡ more) (is : more ≡ record { letter = l; to = To.Person 0; reserve = 0 } ∷ rest) where
   abbrev out : Out
@@ -116,8 +116,7 @@ module _ (g : Phase) (one : g.shards ≡ 1) (most : ℕ) (v : World) (reached : 
   pub answer_turn : PostTurn g v (ObjectShard 0) TurnReply.Moved (record v { persons_mail = after; object_out = put v.object_out 0 rest })
   answer_turn = post_turn g v (ObjectShard 0) out rest (k + length ls + 1) after known stands step
 
--- The shard of the objects posts a First letter, the last of its outbox, which finds room: by a world with that mail of
--- the hub.
+-- The object shard posts a First letter, the last of its outbox, which finds room. The world has this mail of the hub.
 module _ (g : Phase) (one : g.shards ≡ 1) (most : ℕ) (v : World) (reached : Reached g v) (usual : UsualNodes g v) (j k : ℕ) (ls : List Letter)
     (mail : v.hub_mail ≡ one_box (g.persons + 2) most blank_lane (lane k ls)) (few : k + length ls < most) (first : v.object_out 0 ≡ to_hub (Letter.First j) ∷ []) where
   hub_known : 0 < g.shards

@@ -25,7 +25,7 @@ use Rattle.auc_world.specs.Parts.{world_of}
 use Rattle.auc_world.proofs.AloneStops.{never_still, stops_at_ceiling, stops_for_bids}
 use Rattle.auc_world.proofs.AloneLaws.{TellsRight, copy_fits, hears, idle_is, price_fits, rests, sells, tells_right, told_fits}
 
--- ---- how much an answer tells
+-- ---- the number of notices of an answer
 
 told_some : (b : Bool) (holder : Option Held) (person object : ℕ) (price amount : ℤ) (sale : Sale) (eps : ℤ) (bid : Bid) → sale.holder ≡ holder → is_accepted eps sale bid ≡ b → (1 ≤ length (told_of eps sale bid)) × (length (told_of eps sale bid) ≤ 2)
 told_some true None person object price amount sale eps bid h e = rw (e, h) (lit≤ tt, lit≤ tt)
@@ -127,7 +127,7 @@ module _ (x : Given) (is : IsGiven x) where
     pub copies_rise : IsHalfway x s → (t : Told) → s.told ≡ t ∷ drop 1 s.told → NeverFall s.copies (noted (without_told s) t).copies
     copies_rise h t first = rises_set s.copies t.object t.price (object_known h t first) (tells h t first).rises
 
--- nobody is free, so nobody leaves
+-- no person is free, so none leaves
 pub none_leaves : (s : Alone) → s.idle ≡ [] → without_first s ≡ s
 none_leaves s none = ap (λ (is : List ℕ). record s { idle = is }) (rw none refl)
 
@@ -144,7 +144,7 @@ module _ (x : Given) (s : Alone) (h : IsGoing x s) (moved : Alone) (table : Tabl
   pub trade_less : (bid : Bid) → 0 < moved.bids → left_of (answered eps moved bid) ≤ left_of s
   trade_less bid left = subst (λ (n : Alone). left_of (answered eps n bid) ≤ left_of s) (sym leaves) (answer_less eps s bid (subst (λ (n : Alone). 0 < n.bids) leaves left))
 
--- ---- a limit stops the phase, and it never stands still
+-- ---- a limit stops the phase, and it never stalls
 
 module _ (x : Given) (s : Alone) (h : IsGoing x s) (more : s.count < s.persons) where
   abbrev goes : Phase

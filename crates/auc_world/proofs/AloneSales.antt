@@ -37,7 +37,7 @@ use Rattle.auc_world.specs.Alone.{Alone, AreFirsts, AreTold, Shows, awarded, fir
 use Rattle.auc_world.specs.Rounds.{Plays}
 use Rattle.auc_world.proofs.AloneMails.{answer_fits, answer_turn, first_turn, one_first, post_first, post_turn, room_for, step_at, take_first, told_one}
 
--- ---- lists that stand for tables
+-- ---- lists in place of functions
 
 pub set_shows : {X : Type 0} (f : ℕ → X) (xs : List X) (d : X) (j : ℕ) (v : X) → ((k : ℕ) → f k ≡ get_or xs k d) → j < length xs → (k : ℕ) → put f j v k ≡ get_or (set xs j v) k d
 set_shows f xs d j v shows l k =
@@ -56,7 +56,7 @@ same_shows f xs d j shows l k =
 
 -- ---- what a bid makes of what is kept, by cases
 
--- with this sale of the object, this told, and so many more sold for the first time
+-- with this sale of the object, these notices, and this number more sold for the first time
 abbrev pub sold_as : Alone → ℕ → Sale → List Told → ℕ → Alone
 sold_as s j sale told firsts = record s {
   prices = set s.prices j sale.price;
@@ -353,7 +353,7 @@ module _ (g : Phase) (one : g.shards ≡ 1) (allowed most : ℕ) (enough : 2 * a
         let same : get_or s.holders j None ≡ h = sym (shows.holder j) ∙ e in
         sold_accepted s g.eps bid kept_high ∙ ap (λ (x : Option Held). sold_as s j sale (told_of_sale x j amount) (first_of x)) same
 
-    -- that nobody had
+    -- of an object without a holder
     module _ (none : w.holder j ≡ None) (more : s.count < g.persons) where
       abbrev f3 : World
       f3 = sold_world (awards g.shards None i j amount)

@@ -24,7 +24,7 @@ lot_prices lots i l price e = map-set price_in lots i l ∙ ap (set (map price_i
 pub lot_holders : (lots : List Lot) (i : ℕ) (l : Lot) (holder : Option Held) → holder_in l ≡ holder → map holder_in (set lots i l) ≡ set (map holder_in lots) i holder
 lot_holders lots i l holder e = map-set holder_in lots i l ∙ ap (set (map holder_in lots) i) e
 
--- who holds an object, as its lot says
+-- the holder of an object, as its lot says
 pub holder_here : (lots : List Lot) (i : ℕ) (l : Lot) → i < length lots → l ≡ get_or lots i l → get_or (map holder_in lots) i None ≡ holder_in l
 holder_here lots i l lt e = get_or-map holder_in lots i l None lt ∙ ap holder_in (sym e)
 

@@ -1,5 +1,5 @@
--- How a phase with one shard of each kind ends before everybody has an object: by a Stop of the only shard of the
--- persons; and that it never stands still.
+-- How a phase with one shard of each kind ends before each person has an object: by a Stop of the only person shard. It
+-- never stalls.
 use Rattle.std.proofs.Common.{ℕ, suc, ◌+◌, ◌*◌, ◌<◌, ◌≡◌, ◌≢◌, ◌^◌, refl, arith, true, false, List, [], ◌∷◌, Option, None, drop, length, inr, sym, ap, subst, ◌∙◌}
 use Rattle.std.specs.Prelude.{ℤ, pos, ◌<ℤ◌, ◌||◌}
 use Rattle.auc_graph.specs.Bid.{IsBid}
@@ -183,14 +183,14 @@ module _ (g : Phase) (one : g.shards ≡ 1) (start : World) (allowed most : ℕ)
   pub stops_for_bids : (i : ℕ) → s.idle ≡ i ∷ drop 1 s.idle → s.bids ≡ 0 → StopEnds g start s Why.Bids
   stops_for_bids i first none = stop_ends i first Why.Bids (going.shows.bids ∙ none)
 
-  -- he would bid above the greatest price
+  -- the person would bid above the greatest price
   pub stops_at_ceiling : (i : ℕ) → s.idle ≡ i ∷ drop 1 s.idle → s.bids ≢ 0 → (arc : RowArc) (amount : ℤ) → IsBid (scale g) g.spread g.eps (copy_in s.copies) (g.row i) arc amount → pos (2 ^ 61) <ℤ amount → StopEnds g start s Why.Ceiling
   stops_at_ceiling i first some arc amount bids high =
       let left : w.bids_left 0 ≢ 0 = λ e. some (sym going.shows.bids ∙ e) in
       let there : IsBid (scale g) g.spread g.eps (w.copy 0) (g.row i) arc amount = (let same : w.copy 0 ≡ copy_in s.copies = (λ c k. going.shows.copy k c) in rw same bids) in
       stop_ends i first Why.Ceiling (left, (arc, amount, there, high))
 
-  -- ---- somebody is free, or something waits for the persons
+  -- ---- some person is free, or a notice waits for the persons
 
   at_first : (P : ℕ → Type 0) (q : ℕ) → q < g.shards → P 0 → P q
   at_first P q l here = subst P (let only : 0 ≡ q = omega (arith, one, l) in only) here

@@ -33,7 +33,7 @@ module _ (p : Problem) (t : Table) (shards : ℕ) (v : World) (prices : List ℤ
       let within : IsWithin p.persons p.objects arc = subst (IsWithin p.persons p.objects) listed.2 (is.within listed.0 arc listed.1) in
       held_slack_right p t shards (pos 1) v prices of reached true_prices arc within.person (held k d l)
 
-  -- an object that nobody takes is one that nobody holds
+  -- an object that no person of the assignment takes has no holder
   unheld : (choice : List Arc) → IsAssignment p choice → All (IsHeldArc p v) choice → (j : ℕ) → ¬ Contains (map object_of choice) j → v.holder j ≡ None
   unheld choice given held j free = by (v.holder j) refl
     where

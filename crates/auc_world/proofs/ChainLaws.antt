@@ -51,7 +51,7 @@ use Rattle.std.specs.List.{slice_get}
 
 -- ---- one phase more
 
--- what a run has done before a phase at this eps and these prices
+-- the phases of a run before one at this eps and these prices
 abbrev pub IsReady : Table → Limits → Option (List ℤ) → List Stage → ℤ → List ℤ → Type 0
 IsReady t limits start [] eps prices = Begins t start eps prices
 IsReady t limits start (r ∷ rest) eps prices = Follows t r eps prices × Chain t limits start (r ∷ rest)
@@ -66,7 +66,7 @@ ready_next t limits start done s next gathered ready left end more = (record { s
 pub begins_first : (t : Table) (n : ℕ) (prices : List ℤ) (eps : ℤ) → n ≡ t.objects → prices ≡ replicate n (pos 0) → eps ≡ first_eps t → Begins t None eps prices
 begins_first t n prices eps all zeros first = (first, zeros ∙ ap (λ (m : ℕ). replicate m (pos 0)) all)
 
--- where no phase comes after, eps is 1
+-- if no phase follows, eps is 1
 pub last_eps : (eps : ℤ) → IsEps eps → next_eps eps ≡ None → eps ≡ pos 1
 last_eps eps is none = by (int_le eps (pos 1)) refl
   where
@@ -76,7 +76,7 @@ last_eps eps is none = by (int_le eps (pos 1)) refl
 
 -- ---- more objects than persons: one phase, from prices of 0
 
--- where a phase comes after another, there are no more objects than persons
+-- if a phase follows another, there are no more objects than persons
 first_is_only : (t : Table) (next : ℤ) → length t.rows < t.objects → next_eps (first_eps t) ≡ Some next → ⊥
 first_is_only t next more e =
     let b : nat_lt (length t.rows) t.objects ≡ true = grind (arith, nat_tests, more) in
@@ -89,7 +89,7 @@ followed_is_square t limits None r [] next more chain e = first_is_only t next m
 followed_is_square t limits (Some prices) r [] next more chain e = let square = chain.1.2 in omega (arith, more, square)
 followed_is_square t limits start r (q ∷ rest) next more chain e = followed_is_square t limits start q rest r.eps more chain.2 chain.1.next
 
--- a phase from prices of 0 leaves none to what nobody holds
+-- a phase from prices of 0 leaves price 0 to objects without a holder
 made_price : (t : Table) (limits : Limits) (prices : List ℤ) (eps : ℤ) (made : Parts) → AreLimits limits → IsMade t limits prices eps made → (j : ℕ) → (world_of made).price j ≡ price_at prices j
 made_price t limits prices eps made ok is j =
     let some = ok.some in
@@ -125,7 +125,7 @@ module _ (p : Problem) (t : Table) (limits : Limits) (s : Stage) (gathered : Gat
   pub holds_one : NobodyHoldsTwo holders
   holds_one j k a b e f same = (of_every_schedule (phase_of t limits.shards s.eps) s.world left.reached).2 j k a b (in_world j a e) (in_world k b f) same
 
-  -- where each person has an arc that is held, the holders' arcs are these
+  -- if each person has an arc of a holder, the holders' arcs are these
   pub choice_of_holders : (choice : List Arc) → IsAssignment p choice → All (IsHeldArc p s.world) choice → IsChoiceOf p holders choice
   choice_of_holders choice given held = record {
     persons = given.persons;
@@ -195,7 +195,7 @@ module _ (p : Problem) (t : Table) (limits : Limits) (start : Option (List ℤ))
 
   -- ---- a limit has stopped the last phase
 
-  -- each holder has his object by an arc of his to it
+  -- each holder has the object by an arc of the person to it
   placed_rightly : (j : ℕ) (h : Held) → holder_at gathered.holders.items j ≡ Some h → (a : Arc) × HoldsAt p j h a
   placed_rightly j h e =
       let here = in_world p t limits s gathered its left j h e in
@@ -209,7 +209,7 @@ module _ (p : Problem) (t : Table) (limits : Limits) (start : Option (List ℤ))
   placeable : ArePlaceable p gathered.holders.items
   placeable = record { each = placed_rightly; once = holds_one p t limits s gathered its left }
 
-  -- and the bound has 64 bits
+  -- and the bound fits 64 bits
   bound_is_cost : HasAssignment p → BoundFits p gathered.prices.items
   bound_is_cost has =
       let priced = left.sales.prices_are ∙ its.objects in

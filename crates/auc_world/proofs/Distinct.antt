@@ -1,4 +1,4 @@
--- A list in which each number below n stands at most once, and no other, has at most n entries.
+-- A list in which each number below n occurs at most once, and no other, has at most n entries.
 use Rattle.std.proofs.Common.{ℕ, zero, suc, ◌+◌, ◌≤◌, ◌≡◌, refl, arith, List, [], ◌∷◌, length, cond, inl, inr, ap, ◌∙◌}
 use Rattle.std.specs.Prelude.{◌==◌}
 use Rattle.std.proofs.lemmas.Bool.{cases_eq, eq-eqb, ne_eqb}

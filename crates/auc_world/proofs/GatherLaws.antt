@@ -17,7 +17,7 @@ one_more xs ys d a n f is len here before j l =
 pub one_longer : {X : Type 0} (xs ys : List X) (a : X) (n : ℕ) → ys ≡ xs ++ a ∷ [] → length xs ≡ n → length ys ≡ n + 1
 one_longer xs ys a n is len = rw is (omega (arith, length-append xs (a ∷ []), len))
 
--- beyond the objects nobody holds anything, and the price is 0
+-- beyond the last object there is no holder, and the price is 0
 module _ (p : Parts) (are : AreParts p) where
   own : (j : ℕ) → j % p.shards < p.shards
   own j = let some = are.some in omega arith

@@ -43,7 +43,7 @@ module _ (p : Parts) (s : ℕ) (there : s < length p.persons) (is : IsPersonShar
   owner : (i j : ℕ) (q : ℤ) (wanted : PersonState) → Fitting (persons_at p s) i j q wanted → Owns (persons_at p s) i
   owner i j q wanted h = record { known = h.0; own = h.1 }
 
-  -- a letter that is heard
+  -- a letter that is taken
   heard : (l : Letter) (m : Mail Letter) (n : Persons) (u : Unit {0}) → OnLetter (persons_at p s) l (Ok u) n
       → FitsLetter (phase p) (world_of p) s l × Rises (world_of p) s l × (world_of (record p { mails = record p.mails { persons = m }; persons = set p.persons s n }) ≡ after_letter (record (world_of p) { persons_mail = m }) s l)
   heard (Letter.Award i j q) m n u h = (

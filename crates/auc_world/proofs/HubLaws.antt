@@ -20,7 +20,7 @@ seen_if p false x y = refl
 counted_seen : (p : Parts) → world_of (record p { hub = counting (length p.table.rows) p.hub }) ≡ counted (phase p) (world_of p)
 counted_seen p = seen_if p (nat_lt p.hub.count (length p.table.rows)) _ p.hub
 
--- the hub hears as the model's hub does
+-- the hub counts as the model's hub does
 heard_seen : (p : Parts) (l : Letter) → world_of (record p { hub = hearing (length p.table.rows) l p.hub }) ≡ hub_after (phase p) l (world_of p)
 heard_seen p (Letter.First j) = counted_seen p
 heard_seen p (Letter.Stop y) = refl

@@ -1,4 +1,4 @@
--- What holds of each world holds still when a shard, an outbox or a mail is another.
+-- The invariant of the parts still holds after a shard, an outbox or a mail has changed.
 use Rattle.std.proofs.Common.{ℕ, ◌*◌, ◌<◌, ◌≡◌, List, [], length, get_or, set, inl, inr, ap, ◌∙◌, arith, length-set}
 use Rattle.std.specs.Prelude.{ℤ, All, Result}
 use Rattle.std.proofs.lemmas.Bool.{cases_eq}
@@ -93,7 +93,7 @@ module _ (p : Parts) (are : AreParts p) where
   pub answer_keeps : (q : ℕ) (x new : Objects) → q < p.shards → x ≡ objects_at p q → SameObjects x new → AreParts (record p { objects = set p.objects q new })
   answer_keeps q x new known e same = keeps_objects q new known (objects_shape p.table p.shards q x new same (rw e (are.each_objects q known)))
 
-  -- how many shards of the persons the shard knows of
+  -- the number of person shards that the object shard has noted
   answers_to : (q : ℕ) (x : Objects) → q < p.shards → x ≡ objects_at p q → x.person_shards ≡ p.shards
   answers_to q x known e = let is : IsObjectShard p.table p.shards q x = rw e (are.each_objects q known) in is.person_shards
 

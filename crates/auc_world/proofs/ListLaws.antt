@@ -1,4 +1,4 @@
--- Lists of candidates stay right: in a turn, and from a phase to the next.
+-- Candidate lists stay correct in a turn, and from a phase to the next.
 use Rattle.std.proofs.Common.{ℕ, ℤ, ◌<◌, ◌≡◌, ◌⊎◌, inl, inr, List, [], length, get_or, set, subst, ap, ◌∙◌, arith, get_or-set_same, get_or-set_other}
 use Rattle.std.specs.Prelude.{Option}
 use Rattle.std.proofs.lemmas.Bool.{cases_eq}

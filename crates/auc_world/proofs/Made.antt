@@ -30,7 +30,7 @@ use Rattle.auc_world.specs.Parts.{AreParts, IsMail, Parts, phase, world_of}
 empty_at : (xs : List (List Out)) → All (λ x. x ≡ []) xs → (x : ℕ) → get_or xs x [] ≡ []
 empty_at xs all x = elim (cases_lt x (length xs)) [ inl l ↦ all x [] l | inr n ↦ get_or_past xs x [] n ]
 
--- whatever stands there, if anything
+-- the outbox is empty in both cases
 empty_or : (b : Bool) (os : List Out) → os ≡ [] → (if b then os else []) ≡ []
 empty_or true os e = e
 empty_or false os e = refl

@@ -1,4 +1,4 @@
--- What a phase comes to: of all stops only those by a limit, and never a stall.
+-- The outcome of a phase: it is stopped only by a limit, and never stalls.
 use Rattle.std.proofs.Common.{ℕ, ℤ, pos, ◌<◌, ◌≡◌, List, Option, Some, None, sym, subst, ap, ◌∙◌, arith}
 use Rattle.auc_claim.specs.declared.reason.Reason.{Reason}
 use Rattle.std.specs.Prelude.{Ok, Err, All, ◌<ℤ◌, replicate, unsigned_abs}
@@ -45,7 +45,7 @@ stop_is Why.Fell reason e = absurd cc
 stop_is Why.Stray reason e = absurd cc
 stop_is Why.Stuck reason e = absurd cc
 
--- a stop of a reached world stands for no guard, where nobody is without an arc
+-- a stop of a reachable world stands for no guard, if no person is without an arc
 never_guarded : (g : Phase) (v : World) (why : Why) (guard : Guard) → Reached g v → (SomeoneStuck g → ⊥) → v.end ≡ Some (End.Stopped why) → stop_of why ≡ Err guard → ⊥
 never_guarded g v Why.Bids guard r arcs e s = cc
 never_guarded g v Why.Ceiling guard r arcs e s = cc

@@ -35,7 +35,7 @@ sender_known : (p : Parts) (h : Shard) → number h < p.shards → sender (phase
 sender_known p (PersonShard s) known = omega (arith, known)
 sender_known p (ObjectShard q) known = omega (arith, known)
 
--- p is n as its fields tell it
+-- p is n, field by field
 module _ (n p : Parts) (same : p ≡ n) (are : AreParts p) (l : Letters) (h : Shard) (os : List Out) (known : number h < n.shards) (put : l ≡ record (letters_of p) { outboxes = set p.outboxes (sender (phase p) h) os }) where
   here : number h < p.shards
   here = subst (λ (z : Parts). number h < z.shards) (sym same) known

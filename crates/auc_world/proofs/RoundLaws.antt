@@ -207,7 +207,7 @@ plays_gain g w (t ∷ ts) moved v (here, all) (m, r, rest, turned, played, is) e
       ]
     ]
 
--- how far off the end is: 0 once it is set
+-- a bound on the rounds up to the end: 0 once the end is set
 abbrev pub left_of : Option End → ℕ → ℕ
 left_of None n = suc n
 left_of (Some e) n = 0

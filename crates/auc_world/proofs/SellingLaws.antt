@@ -1,4 +1,4 @@
--- Turns by which a shard of the objects takes a bid or tells a price.
+-- Turns by which an object shard takes a bid or sends a price.
 use Rattle.std.proofs.Common.{ℕ, ◌%◌, ◌<◌, ◌≡◌, List, [], ◌∷◌, length, get_or, set, refl, ap, sym, ◌∙◌, subst, arith}
 use Rattle.std.specs.Prelude.{All, ℤ}
 use Rattle.auc_letters.specs.declared.letter.Letter.{Letter}
@@ -22,7 +22,7 @@ use Rattle.auc_world.specs.Mails.{Letters, TakesOne}
 use Rattle.auc_world.specs.Parts.{AreParts, MayAnswer, OwnsObject, Parts, objects_at, phase, world_of}
 use Rattle.auc_world.proofs.WorldOf.{letters_of, seen_sold, with_letters, with_mails}
 
--- a letter that is no bid of the shard's fits it in no way
+-- a letter that is no bid on the shard's objects doesn't fit
 module _ (p : Parts) (q : ℕ) (are : AreParts p) (known : q < p.shards) where
   shard_is : IsObjectShard p.table p.shards q (objects_at p q)
   shard_is = are.each_objects q known

@@ -1,6 +1,6 @@
--- A phase with one shard of each kind, played by itself: what is kept of the world, what a round makes of it, and how a
--- world is seen in it. What waits in the mails of the objects and of the hub between two turns is told by the turn, and
--- isn't kept.
+-- A phase with one shard of each kind, played without a world: the state that is kept, the effect of a round, and the
+-- world that the state stands for. The letters that wait in the mails of the objects and of the hub between two turns
+-- follow from the turn, and aren't kept.
 use Rattle.std.specs.Prelude.{ℕ, ◌+◌, ◌*◌, ◌-◌, ◌<◌, ◌≤◌, ◌≡◌, ◌==◌, ℤ, pos, Bool, true, false, if◌then◌else◌, List, [], ◌∷◌, ◌++◌, length, drop, slice_index_or, slice_set, Option, Some, None}
 use Rattle.auc_letters.specs.declared.letter.Letter.{Letter}
 use Rattle.auc_letters.specs.declared.letter.Bid.{Bid}
@@ -14,13 +14,13 @@ use Rattle.auc_model.specs.declared.turn.Turn.{Turn}
 use Rattle.auc_world.specs.declared.alone.told.Told.{Told}
 use Rattle.auc_world.specs.Rounds.{Plays, Rounds}
 
--- stands for nobody who is free again
+-- the number that stands for no freed person
 abbrev pub nobody : ℕ
 nobody = 4294967295
 
--- How many persons there are; by object the copy of its price, its price and its holder; what waits for the persons,
--- the earliest first; the free persons, who has been free longest first; how many bids are left; and how many objects
--- were sold for the first time.
+-- The number of persons. By object the copy of its price, its price and its holder. The notices that wait for the
+-- persons, earliest first; the free persons, longest free first; the bids left; and the number of objects sold for the
+-- first time.
 pub record Alone : Type 0 where
   pub persons : ℕ
   pub copies : List ℤ
@@ -36,18 +36,19 @@ pub record Alone : Type 0 where
 abbrev pub sale_at : Alone → ℕ → Sale
 sale_at s object = record { price = slice_index_or s.prices object (pos 0); holder = slice_index_or s.holders object None }
 
--- what is told of an object: its price, and who is free by it
+-- the notice about an object: its price, and the person that it frees
 abbrev pub frees : ℕ → ℕ → ℤ → Told
 frees person object price = record { price = price; object = object; freed = person }
 
 abbrev pub awarded : ℕ → ℤ → Told
 awarded object price = record { price = price; object = object; freed = nobody }
 
--- what an accepted bid makes the persons hear: who held the object is free, and then the award
+-- the notices of an accepted bid: the holder before is freed, and then the award
 abbrev pub told_of_sale : Option Held → ℕ → ℤ → List Told
 told_of_sale None object price = awarded object price ∷ []
 told_of_sale (Some held) object price = frees held.person object price ∷ awarded object price ∷ []
 
+-- the notices of a bid: those of an accepted one, or that the bidder is free again at the present price
 abbrev pub told_of : ℤ → Sale → Bid → List Told
 told_of eps sale bid =
     if is_accepted eps sale bid then told_of_sale sale.holder bid.object bid.amount else frees bid.person bid.object
@@ -57,11 +58,11 @@ abbrev pub first_of : Option Held → ℕ
 first_of None = 1
 first_of (Some held) = 0
 
--- 1 where a bid sells its object for the first time
+-- 1 if the bid sells its object for the first time, else 0
 abbrev pub firsts_of : ℤ → Sale → Bid → ℕ
 firsts_of eps sale bid = if is_accepted eps sale bid then first_of sale.holder else 0
 
--- the first of the free persons has made this bid, which was answered
+-- the state after the first free person has made this bid, and it was answered
 abbrev pub sold : ℤ → Alone → Bid → Alone
 sold eps s bid = record s {
   prices = slice_set s.prices bid.object (award eps (sale_at s bid.object) bid).price;
@@ -75,13 +76,13 @@ sold eps s bid = record s {
 abbrev pub freed_by : Told → List ℕ
 freed_by t = if t.freed == nobody then [] else t.freed ∷ []
 
--- the persons have heard this, the first of what waits for them
+-- the state after the persons have taken this notice, the first that waits
 abbrev pub heard : Alone → Told → Alone
 heard s t = record s { copies = slice_set s.copies t.object t.price; told = drop 1 s.told; idle = s.idle ++ freed_by t }
 
 -- ---- the world that is seen in it
 
--- this is told by that letter
+-- the notice says what the letter says
 abbrev pub IsTold : Told → Letter → Type 0
 IsTold t (Letter.Award i j p) = (t.price ≡ p) × (t.object ≡ j) × (t.freed ≡ nobody)
 IsTold t (Letter.Refused i j p) = (t.price ≡ p) × (t.object ≡ j) × (t.freed ≡ i)
@@ -110,12 +111,13 @@ AreFirsts (Letter.Stop y ∷ ls) = ⊥
 abbrev pub lane : ℕ → List Letter → Lane Letter
 lane taken letters = record { taken = taken; waiting = letters }
 
--- an open mail of one box, with its three senders: the shard of the persons, that of the objects, and the hub
+-- an open mail of one box, with its three senders: the person shard, the object shard, and the hub
 abbrev pub one_box : ℕ → ℕ → Lane Letter → Lane Letter → Mail Letter
 one_box nodes most persons objects = record
     { senders = 3; nodes = nodes; most = most; accepting = true ∷ []; lanes = persons ∷ objects ∷ blank_lane ∷ [] }
 
--- with so many First letters in the hub's mail, which are counted already here, and not yet there
+-- The mails of a world that the state stands for. This number of First letters waits in the hub's mail: they are
+-- counted in the state already, and not yet in the world.
 pub record MailsTell (g : Phase) (allowed most : ℕ) (s : Alone) (firsts : ℕ) (w : World) : Type 0 where
   pub taken : ℕ
   pub objects : w.objects_mail ≡ one_box g.persons most (lane taken []) blank_lane
@@ -133,8 +135,8 @@ pub record MailsTell (g : Phase) (allowed most : ℕ) (s : Alone) (firsts : ℕ)
   pub many : length waiting ≡ firsts
   pub few_firsts : counted + length waiting + s.bids ≤ allowed
 
--- A world of the phase, with one shard of each kind, each of whose boxes is open, is seen in it: between two turns of
--- which neither leaves a letter in an outbox. So many bids were allowed, and so many posts in each lane.
+-- The state stands for this world of the phase, with one shard of each kind and all boxes open, between two turns that
+-- leave no letter in an outbox. This number of bids was allowed, and this number of posts in each lane.
 pub record Shows (g : Phase) (allowed most : ℕ) (s : Alone) (firsts : ℕ) (w : World) : Type 0 where
   pub price : (j : ℕ) → w.price j ≡ slice_index_or s.prices j (pos 0)
   pub holder : (j : ℕ) → w.holder j ≡ slice_index_or s.holders j None
@@ -151,11 +153,11 @@ pub record Shows (g : Phase) (allowed most : ℕ) (s : Alone) (firsts : ℕ) (w 
   pub copies_are : length s.copies ≡ g.objects
   pub within : s.count ≤ g.persons
 
--- how a phase stands in which so many objects were sold
+-- the end of a phase in which this number of objects was sold, if it has ended
 abbrev pub end_at : ℕ → ℕ → Option End
 end_at count persons = if count == persons then Some End.All else None
 
--- whole rounds have led here from the world that the phase began with
+-- whole rounds have led from the world that the phase began with to one that the state stands for
 pub record Going (g : Phase) (start : World) (allowed most : ℕ) (s : Alone) : Type 0 where
   pub rounds : ℕ
   pub world : World
@@ -168,7 +170,8 @@ pub record Going (g : Phase) (start : World) (allowed most : ℕ) (s : Alone) : 
 abbrev pub sale_turns : List Turn
 sale_turns = Turn.Bid 0 ∷ Turn.PersonPost 0 ∷ Turn.ObjectTake 0 ∷ Turn.ObjectPost 0 ∷ Turn.ObjectPost 0 ∷ []
 
--- whole rounds, and these turns of the next one, have led here; First letters that the hub will count are counted here
+-- whole rounds, and these turns of the next one, have led to a world that the state stands for; it counts the First
+-- letters that the hub has still to count
 pub record Halfway (g : Phase) (start : World) (allowed most : ℕ) (s : Alone) : Type 0 where
   pub rounds : ℕ
   pub before : World
@@ -182,5 +185,5 @@ pub record Halfway (g : Phase) (start : World) (allowed most : ℕ) (s : Alone) 
   pub few : firsts ≤ 1
   pub shows : Shows g allowed most s firsts world
   pub still : world.end ≡ None
-  -- where nothing is to be counted, somebody was still without an object before the round
+  -- where nothing is to be counted, some person was still without an object before the round
   pub unsold : firsts ≡ 0 → s.count < g.persons

@@ -1,4 +1,4 @@
--- A phase that is played by itself: what it is given, how it begins, and how far it has come.
+-- A phase with one shard of each kind, played without a world: its parameters, its start, and its invariants.
 use Rattle.std.specs.Prelude.{ℕ, ◌+◌, ◌*◌, ◌-◌, ◌<◌, ◌≡◌, ℤ, pos, List, [], ◌∷◌, ◌++◌, Some, None, length, drop, replicate, slice_index_or, slice_set}
 use Rattle.auc_graph.specs.Table.{IsTable, Table}
 use Rattle.auc_letters.specs.declared.letter.Bid.{Bid}
@@ -20,15 +20,15 @@ use Rattle.auc_world.specs.Making.{IsMade}
 use Rattle.auc_world.specs.Parts.{Parts, world_of}
 use Rattle.auc_world.specs.Rounds.{Rounds}
 
--- what a phase is given: the rows of the problem, the limits, the prices that it begins with, and eps
+-- the parameters of a phase: the rows of the problem, the limits, the prices that it begins with, and eps
 pub record Given : Type 0 where
   pub table : Table
   pub limits : Limits
   pub prices : List ℤ
   pub eps : ℤ
 
--- it may be played by itself: there is one shard of each kind, as many letters may wait as are usual, and more may be
--- posted than two for each bid
+-- the limits allow it: one shard of each kind, the usual number of letters that may wait, and more than two posts for
+-- each bid
 pub record MayPlayAlone (limits : Limits) : Type 0 where
   pub one : limits.shards ≡ 1
   pub usual : limits.nodes ≡ 0
@@ -42,7 +42,7 @@ pub record IsGiven (x : Given) : Type 0 where
   pub eps : IsEps x.eps
   pub arcs : NobodyStuck x.table
 
--- nobody has anything, and everybody is free
+-- the start: no object has a holder, and every person is free
 abbrev pub begun : Given → Alone
 begun x = record {
   persons = length x.table.rows;
@@ -55,11 +55,11 @@ begun x = record {
   count = 0;
 }
 
--- the first of the free persons is free no longer
+-- the state without the first free person
 abbrev pub without_first : Alone → Alone
 without_first s = record s { idle = drop 1 s.idle }
 
--- his bid was answered
+-- the state after that person's bid was answered
 abbrev pub answered : ℤ → Alone → Bid → Alone
 answered eps s bid = record s {
   prices = slice_set s.prices bid.object (award eps (sale_at s bid.object) bid).price;
@@ -69,7 +69,7 @@ answered eps s bid = record s {
   count = s.count + firsts_of eps (sale_at s bid.object) bid;
 }
 
--- an object was sold to this person, by this arc, at this price
+-- the state after the sale of an object at this price, to a holder with this arc
 abbrev pub with_sale : Alone → ℕ → ℤ → Held → Alone
 with_sale s object price held = record s {
   prices = slice_set s.prices object price;
@@ -78,19 +78,19 @@ with_sale s object price held = record s {
   count = s.count + first_of (sale_at s object).holder;
 }
 
--- one thing more waits for the persons
+-- the state with one more notice for the persons
 abbrev pub with_told : Alone → Told → Alone
 with_told s t = record s { told = s.told ++ t ∷ [] }
 
--- the first of what waits for the persons waits no longer
+-- the state without the first notice
 abbrev pub without_told : Alone → Alone
 without_told s = record s { told = drop 1 s.told }
 
--- the persons have heard this
+-- the state after the persons have noted this notice
 abbrev pub noted : Alone → Told → Alone
 noted s t = record s { copies = slice_set s.copies t.object t.price; idle = s.idle ++ freed_by t }
 
--- whole rounds of a world of the phase have led here
+-- the invariant after whole rounds of a world of the phase
 pub record IsGoing (x : Given) (s : Alone) : Type 0 where
   pub given : IsGiven x
   pub parts : Parts
@@ -98,7 +98,7 @@ pub record IsGoing (x : Given) (s : Alone) : Type 0 where
   pub going : Going (phase_of x.table 1 x.eps) (world_of parts) x.limits.bids x.limits.posts s
   pub persons : s.persons ≡ length x.table.rows
 
--- whole rounds, and the turns of the next one up to the answers to a bid
+-- the invariant after whole rounds, and the turns of the next one up to the answers to a bid
 pub record IsHalfway (x : Given) (s : Alone) : Type 0 where
   pub given : IsGiven x
   pub parts : Parts
@@ -106,7 +106,8 @@ pub record IsHalfway (x : Given) (s : Alone) : Type 0 where
   pub half : Halfway (phase_of x.table 1 x.eps) (world_of parts) x.limits.bids x.limits.posts s
   pub persons : s.persons ≡ length x.table.rows
 
--- A limit has stopped the phase, for this reason, after whole rounds: so stand its prices and holders.
+-- A limit has stopped the phase, for this reason, after whole rounds. The prices and holders are those of its last
+-- world.
 pub record StopEnds (g : Phase) (start : World) (s : Alone) (why : Why) : Type 0 where
   pub rounds : ℕ
   pub world : World
@@ -124,6 +125,6 @@ pub record IsStopped (x : Given) (s : Alone) (why : Why) : Type 0 where
   pub prices_are : length s.prices ≡ x.table.objects
   pub holders_are : length s.holders ≡ x.table.objects
 
--- More than the rounds that are left: each one takes a bid, which is told to two at most, or something that was told.
+-- A bound on the rounds that are left: each round uses up a bid, which makes at most two notices, or a notice.
 abbrev pub left_of : Alone → ℕ
 left_of s = 3 * s.bids + length s.told

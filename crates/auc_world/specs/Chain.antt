@@ -1,4 +1,4 @@
--- The phases of a run, each from what the one before has left, and what an answer says of the last one.
+-- The phases of a run, each from the prices that the one before has left, and what an answer says of the last one.
 use Rattle.std.specs.Prelude.{ℕ, ℤ, pos, ◌≡◌, List, [], ◌∷◌, Option, Some, All, length}
 use Rattle.auc_graph.specs.declared.arc.Arc.{Arc}
 use Rattle.auc_graph.specs.Assignment.{IsAssignment}
@@ -18,22 +18,22 @@ use Rattle.auc_phases.specs.Eps.{next_eps}
 use Rattle.auc_phases.specs.Begins.{Begins}
 use Rattle.auc_world.specs.Phases.{IsPlayed, Stage}
 
--- a phase at this eps and these prices comes after r: every person had an object there, the eps is the next one, and
--- the prices are those that r has left
+-- a phase at this eps and these prices follows the phase r: each person had an object there, the eps is the next one,
+-- and the prices are those that r has left
 pub record Follows (t : Table) (r : Stage) (eps : ℤ) (prices : List ℤ) : Type 0 where
   pub sold : r.world.end ≡ Some End.All
   pub next : next_eps r.eps ≡ Some eps
   pub each : length prices ≡ t.objects
   pub kept : ArePricesOf r.world prices
 
--- The phases of a run, the last one first, each next one after the one before. Where there is no start, it is from
--- nothing.
+-- The phases of a run, the last one first, each following the one before. The first one begins from start prices, or
+-- without them.
 abbrev pub Chain : Table → Limits → Option (List ℤ) → List Stage → Type 0
 Chain t limits start [] = ⊥
 Chain t limits start (s ∷ []) = IsPlayed t limits s × Begins t start s.eps s.prices
 Chain t limits start (s ∷ r ∷ rest) = IsPlayed t limits s × Follows t r s.eps s.prices × Chain t limits start (r ∷ rest)
 
--- a run of the problem by these limits whose last phase is this one
+-- a run of the problem with these limits whose last phase is this one
 pub record EndsIn (p : Problem) (limits : Limits) (start : Option (List ℤ)) (last : Stage) : Type 0 where
   pub table : Table
   pub of : IsTableOf p table
@@ -50,8 +50,8 @@ pub record IsClaimOf (p : Problem) (w : World) (cert : CertParts) : Type 0 where
   pub true_prices : ArePricesOf w prices
   pub is : cert ≡ claim_of choice prices
 
--- an assignment that has grown from the arcs of the world's holders, and the bound that its true prices give, for the
--- reason for which it was stopped
+-- a bracket: an assignment that has grown from the arcs of the world's holders, the dual bound of its true prices, and
+-- the reason for which it was stopped
 pub record IsBracketOf (p : Problem) (w : World) (cert : CertParts) : Type 0 where
   pub reason : Reason
   pub stopped : w.end ≡ Some (End.Stopped (why_of reason))
@@ -63,8 +63,8 @@ pub record IsBracketOf (p : Problem) (w : World) (cert : CertParts) : Type 0 whe
   pub holders_are : (j : ℕ) → holder_at holders j ≡ w.holder j
   pub grown : GrowsFrom p holders (picks_of cert)
 
--- What an answer says of its run: a least cost is claimed of the last world, at eps 1, in which every person has an
--- object; and a bracket stands only where a limit has stopped the last world, by whose prices it is.
+-- What an answer says of its run. A least cost is claimed by the last world, at eps 1, in which each person has an
+-- object. A bracket is claimed by the prices of the last world, which a limit has stopped.
 abbrev pub IsOfRun : Problem → Limits → Option (List ℤ) → Answer → Type 0
 IsOfRun p limits start (Answer.Optimal cert) =
     (last : Stage) × EndsIn p limits start last × (last.eps ≡ pos 1) × (last.world.end ≡ Some End.All)

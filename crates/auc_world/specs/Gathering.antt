@@ -4,7 +4,7 @@ use Rattle.auc_letters.specs.declared.state.Held.{Held}
 use Rattle.auc_model.specs.World.{World}
 use Rattle.auc_world.specs.Parts.{Parts, world_of}
 
--- by object who holds it, and its price, of so many objects
+-- the holder and the price of each object, for this number of objects
 pub record AreSales (objects : ℕ) (w : World) (holders : List (Option Held)) (prices : List ℤ) : Type 0 where
   pub holders_are : length holders ≡ objects
   pub prices_are : length prices ≡ objects

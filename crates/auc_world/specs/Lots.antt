@@ -1,4 +1,4 @@
--- An object and its holder as a phase keeps them that is played by itself.
+-- The packed form of an object in a phase with one shard of each kind: its price and its holder.
 use Rattle.std.specs.Prelude.{ℕ, ◌==◌, if◌then◌else◌, ℤ, Option, Some, None}
 use Rattle.auc_letters.specs.declared.state.Held.{Held}
 use Rattle.auc_world.specs.declared.alone.lot.Lot.{Lot}
@@ -7,7 +7,7 @@ use Rattle.auc_world.specs.Alone.{nobody}
 abbrev pub price_in : Lot → ℤ
 price_in l = l.price
 
--- there is a holder where the person isn't nobody
+-- the object has a holder unless the person is nobody
 abbrev pub holder_by : ℕ → ℕ → Option Held
 holder_by person arc = if person == nobody then None else Some (record { person = person; arc = arc })
 

@@ -1,4 +1,4 @@
--- The three mails of a world, and the letters that wait there and in the outboxes.
+-- The three mails of a world, and the letters that wait in them and in the outboxes.
 use Rattle.std.specs.Prelude.{ℕ, List, [], slice_index_or}
 use Rattle.auc_mail.specs.Mail.{Mail}
 use Rattle.auc_letters.specs.declared.letter.Letter.{Letter}
@@ -12,13 +12,13 @@ pub record Mails : Type 0 where
   pub persons : Mail Letter
   pub hub : Mail Letter
 
--- the mail of that name
+-- the mail of this name
 abbrev pub named : Mails → MailName → Mail Letter
 named m MailName.Objects = m.objects
 named m MailName.Persons = m.persons
 named m MailName.Hub = m.hub
 
--- another mail in place of the one of that name
+-- the mails, with this one in place of the mail of that name
 abbrev pub with_named : Mails → MailName → Mail Letter → Mails
 with_named m MailName.Objects x = record m { objects = x }
 with_named m MailName.Persons x = record m { persons = x }
@@ -28,11 +28,11 @@ with_named m MailName.Hub x = record m { hub = x }
 abbrev pub TakesOne : Mail Letter → ℕ → Letter → Mail Letter → Type 0
 TakesOne m b l n = (x : ℕ) × (k : ℕ) × Takes m b x k l n
 
--- what a post office has: the outbox of each sender, the next letter first, and the three mails
+-- the state of a post office: the outbox of each sender, the next letter first, and the three mails
 pub record Letters : Type 0 where
   pub outboxes : List (List Out)
   pub mails : Mails
 
--- what a sender has still to post
+-- the letters that a sender has still to post
 abbrev pub outbox_of : Letters → ℕ → List Out
 outbox_of p x = slice_index_or p.outboxes x []

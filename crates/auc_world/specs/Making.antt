@@ -7,7 +7,7 @@ use Rattle.auc_phases.specs.Shards.{new_objects, new_persons, no_objects, no_per
 use Rattle.auc_phases.specs.Limits.{nodes_or}
 use Rattle.auc_world.specs.Parts.{Parts, world_of}
 
--- the parts of a new world
+-- the parts of a new world with these rows, limits, prices and eps
 pub record IsMade (t : Table) (limits : Limits) (prices : List ℤ) (eps : ℤ) (p : Parts) : Type 0 where
   pub table : p.table ≡ t
   pub shards : p.shards ≡ limits.shards
@@ -28,7 +28,7 @@ pub record IsMade (t : Table) (limits : Limits) (prices : List ℤ) (eps : ℤ) 
   pub count : p.hub.count ≡ 0
   pub end : p.hub.end ≡ None
 
--- what nobody holds after some turns had no holder before them, and has kept its price
+-- each object without a holder after some turns had none before them, and has kept its price
 abbrev pub KeepsUnheld : Parts → Parts → Type 0
 KeepsUnheld before after =
     (j : ℕ) → (world_of after).holder j ≡ None → ((world_of before).holder j ≡ None)

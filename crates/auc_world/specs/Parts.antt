@@ -14,9 +14,9 @@ use Rattle.auc_phases.specs.Boxes.{Reaches}
 use Rattle.auc_phases.specs.Shards.{IsObjectShard, IsPersonShard, no_objects, no_persons}
 use Rattle.auc_world.specs.Mails.{Mails}
 
--- The rows of the problem, how many shards there are of each kind, and eps; the shards; the outboxes of the shards of
--- the persons, and after them those of the shards of the objects; which shards of the persons have made a Stop; the
--- three mails; how many First letters the hub has counted, and the end, once it is set.
+-- The rows of the problem, the number of shards of each kind, and eps. The shards, and the outboxes: those of the
+-- person shards, and after them those of the object shards. The flags of person shards that have made a Stop, the three
+-- mails, and the hub: the First letters counted, and the end, once it is set.
 pub record Parts : Type 0 where
   pub table : Table
   pub shards : ℕ
@@ -38,20 +38,21 @@ objects_at p q = slice_index_or p.objects q no_objects
 abbrev pub has_stopped : Parts → ℕ → Bool
 has_stopped p s = slice_index_or p.stopped s false
 
--- the outbox of a sender: the shards of the persons come first, those of the objects after them
+-- the outbox of a sender: the person shards come first, the object shards after them
 abbrev pub outbox_at : Parts → ℕ → List Out
 outbox_at p x = slice_index_or p.outboxes x []
 
--- which sender of each mail a shard is
+-- the sender number of a shard, in each mail
 abbrev pub sender_of : Parts → Shard → ℕ
 sender_of p (Shard.PersonShard s) = s
 sender_of p (Shard.ObjectShard q) = p.shards + q
 
--- the phase that the world is of
+-- the phase of the world
 abbrev pub phase : Parts → Phase
 phase p = phase_of p.table p.shards p.eps
 
--- The world: the price and the holder of an object stand in its own shard, and so does the state of a person.
+-- The world that the parts make: the price and the holder of an object are kept in its own shard, and so is the state
+-- of a person.
 abbrev pub world_of : Parts → World
 world_of p = record {
   price = λ j. price_of (slice_index_or p.objects (j % p.shards) no_objects) j;
@@ -70,7 +71,7 @@ world_of p = record {
   end = p.hub.end;
 }
 
--- a mail of this world, with so many boxes
+-- a mail of this world, with this number of boxes
 pub record IsMail (shards : ℕ) (m : Mail Letter) (boxes : ℕ) : Type 0 where
   pub boxes_are : length m.accepting ≡ boxes
   pub senders_are : m.senders ≡ 2 * shards + 1
@@ -80,7 +81,7 @@ pub record AreMails (shards : ℕ) (m : Mails) : Type 0 where
   pub persons : IsMail shards m.persons shards
   pub hub : IsMail shards m.hub 1
 
--- what holds of each world
+-- the invariant of the parts
 pub record AreParts (p : Parts) : Type 0 where
   pub some : 0 < p.shards
   pub few : p.shards ≤ 16
@@ -101,23 +102,23 @@ pub record SamePhase (p n : Parts) : Type 0 where
   pub shards : n.shards ≡ p.shards
   pub eps : n.eps ≡ p.eps
 
--- the shard of the persons is there, its outbox is empty, and it has made no Stop
+-- the person shard may be asked for a bid: it exists, its outbox is empty, and it has made no Stop
 pub record MayAskForBid (p : Parts) (s : ℕ) : Type 0 where
   pub known : s < p.shards
   pub empty : outbox_at p s ≡ []
   pub going : has_stopped p s ≡ false
 
--- the shard of the objects is there, and its outbox is empty
+-- the object shard may answer a bid: it exists, and its outbox is empty
 pub record MayAnswer (p : Parts) (q : ℕ) : Type 0 where
   pub known : q < p.shards
   pub empty : outbox_at p (p.shards + q) ≡ []
 
--- there is such an object, and it is the shard's
+-- the object exists, and is the shard's
 pub record OwnsObject (p : Parts) (q j : ℕ) : Type 0 where
   pub known : j < p.table.objects
   pub own : j % p.shards ≡ q
 
--- there is such a box, and it is open
+-- the box exists, and is open
 pub record IsOpenBox (m : Mail Letter) (at : ℕ) : Type 0 where
   pub known : HasBox m at
   pub accepts : IsOpen m at

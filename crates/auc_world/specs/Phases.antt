@@ -1,4 +1,4 @@
--- A phase of a run, and what it comes to.
+-- A phase of a run, and its outcome.
 use Rattle.std.specs.Prelude.{ℕ, ℤ, ◌≡◌, ◌≢◌, List, Some, None, All}
 use Rattle.auc_graph.specs.Table.{Table}
 use Rattle.auc_graph.specs.Price.{IsPrice}
@@ -20,7 +20,7 @@ pub record Stage : Type 0 where
   pub prices : List ℤ
   pub world : World
 
--- It is played from the new world that the limits and its prices make, in whole rounds, up to the first one after which
+-- The phase was played from the new world of its limits and prices, in whole rounds, up to the first one after which
 -- the end is set.
 pub record IsPlayed (t : Table) (limits : Limits) (s : Stage) : Type 0 where
   pub parts : Parts
@@ -29,14 +29,14 @@ pub record IsPlayed (t : Table) (limits : Limits) (s : Stage) : Type 0 where
   pub played : Rounds (phase_of t limits.shards s.eps) (world_of parts) rounds s.world
   pub ended : s.world.end ≢ None
 
--- these are the holders and the prices that the phase left
+-- these are the holders and the prices that the phase has left
 pub record Leaves (t : Table) (limits : Limits) (s : Stage) (gathered : Gathered) : Type 0 where
   pub played : IsPlayed t limits s
   pub reached : Reached (phase_of t limits.shards s.eps) s.world
   pub sales : AreSales t.objects s.world gathered.holders.items gathered.prices.items
   pub within : All IsPrice gathered.prices.items
 
--- What a phase at these prices and this eps comes to: each person has an object, or it was stopped by a limit; no guard
+-- The outcome of a phase at these prices and this eps: each person has an object, or a limit has stopped it. No guard
 -- is hit, and it never stalls.
 abbrev pub ComesOf : Table → Limits → List ℤ → ℤ → Outcome → Type 0
 ComesOf t limits prices eps (Outcome.Sold gathered) =

@@ -14,7 +14,7 @@ use Rattle.auc_phases.specs.Boxes.{name_of}
 use Rattle.auc_world.specs.declared.post_office.posting.Posted.{Posted}
 use Rattle.auc_world.specs.Mails.{Letters, Mails, named, outbox_of, with_named}
 
--- the mail that a letter goes into
+-- the mail to which a letter goes
 abbrev pub mail_for : Mails → Out → Mail Letter
 mail_for s o = named s (name_of o.to)
 
@@ -22,8 +22,8 @@ mail_for s o = named s (name_of o.to)
 abbrev pub post_of : ℕ → Out → Call Letter
 post_of x o = Call.Post x (box_of o.to) o.letter o.reserve
 
--- it leaves its outbox, since its mail accepts it, or refuses it and doesn't miss it: its box is closed, or it is a
--- Price
+-- The letter leaves its outbox. Its mail accepts it, or refuses it and can do without it: the box is closed, or the
+-- letter is a Price.
 abbrev pub Leaves : Mails → ℕ → Out → Mails → Type 0
 Leaves s x o t =
     ((k : ℕ) × Step (mail_for s o) (post_of x o) (Reply.Posted k) (mail_for t o) × (t ≡ with_named s (name_of o.to) (mail_for t o)))
@@ -31,13 +31,13 @@ Leaves s x o t =
     ((y : PostRefused) × Step (mail_for s o) (post_of x o) (Reply.Refused y) (mail_for s o) × ((y ≡
     PostRefused.Closed) ⊎ ((y ≢ PostRefused.Closed) × (is_price o.letter ≡ true))) × (t ≡ s))
 
--- it is refused and stays there, and the phase ends for this reason
+-- the letter is refused and stays in the outbox, and the phase ends for this reason
 abbrev pub Stays : Mails → ℕ → Out → Why → Type 0
 Stays s x o why =
     (y : PostRefused) × Step (mail_for s o) (post_of x o) (Reply.Refused y) (mail_for s o) × (y ≢ PostRefused.Closed)
     × (is_price o.letter ≡ false) × (why ≡ reason y)
 
--- it stands first in the outbox of x
+-- the letter is the first in the outbox of x
 abbrev pub StandsFirst : Letters → ℕ → Out → Type 0
 StandsFirst p x o = outbox_of p x ≡ o ∷ drop 1 (outbox_of p x)
 

@@ -1,4 +1,4 @@
--- The fixed round, and phases that are played in whole rounds.
+-- The fixed round of turns, and phases in whole rounds.
 use Rattle.std.specs.Prelude.{ℕ, zero, suc, ◌≡◌, ◌||◌, Bool, true, false, List, [], ◌∷◌, ◌++◌, None}
 use Rattle.auc_model.specs.declared.turn.Turn.{Turn}
 use Rattle.auc_model.specs.declared.turn.TurnReply.{TurnReply}
@@ -9,33 +9,33 @@ abbrev pub has_moved : TurnReply → Bool
 has_moved TurnReply.Moved = true
 has_moved TurnReply.Nothing = false
 
--- the turns, one after another, lead from w to v; `moved` says whether one of them moved anything
+-- the turns, one after another, lead from w to v; `moved` says whether one of them changed anything
 abbrev pub Plays : Phase → World → List Turn → Bool → World → Type 0
 Plays g w [] moved v = (v ≡ w) × (moved ≡ false)
 Plays g w (t ∷ ts) moved v =
     (m : World) × (r : TurnReply) × (later : Bool) × Turned g w t r m × Plays g m ts later v
     × (moved ≡ (has_moved r || later))
 
--- each of so many shards of the persons bids and posts
+-- each of this number of person shards bids and posts
 abbrev pub bids_of : ℕ → List Turn
 bids_of zero = []
 bids_of (suc s) = bids_of s ++ Turn.Bid s ∷ Turn.PersonPost s ∷ []
 
--- each of so many shards of the objects takes a bid and posts its answers
+-- each of this number of object shards takes a bid and posts its answers
 abbrev pub answers_of : ℕ → List Turn
 answers_of zero = []
 answers_of (suc q) = answers_of q ++ Turn.ObjectTake q ∷ Turn.ObjectPost q ∷ Turn.ObjectPost q ∷ []
 
--- each of so many shards of the persons hears a letter
+-- each of this number of person shards takes a letter
 abbrev pub hearings_of : ℕ → List Turn
 hearings_of zero = []
 hearings_of (suc s) = hearings_of s ++ Turn.PersonTake s ∷ []
 
--- the fixed round, with so many shards of each kind
+-- the fixed round, with this number of shards of each kind
 abbrev pub round_of : ℕ → List Turn
 round_of n = ((bids_of n ++ answers_of n) ++ hearings_of n) ++ Turn.HubTake ∷ []
 
--- so many whole rounds, before each of which the end isn't set
+-- this number of whole rounds leads from w to v; the end isn't set before any of them
 abbrev pub Rounds : Phase → World → ℕ → World → Type 0
 Rounds g w zero v = v ≡ w
 Rounds g w (suc n) v = (m : World) × (moved : Bool) × Rounds g w n m × (m.end ≡ None) × Plays g m (round_of g.shards) moved v

@@ -1,9 +1,8 @@
 //! The call over a table.
 
 use crate::same::assert_same;
-use auc_call::{
-    BRACKET, Found, GivenTable, INFEASIBLE, OPTIMAL, REFUSED, Run, SIZES, START, solve_table_call,
-};
+use auc_call::{BRACKET, Found, INFEASIBLE, OPTIMAL, REFUSED, Run, SIZES, START};
+use auc_dense::{GivenTable, solve_table_call};
 use std::test::*;
 
 /// No arc stands where this number does.

@@ -1,4 +1,4 @@
-//! The solver and the checker as C calls them: the exports alone, over [`auc_call`].
+//! The solver and the checker as C calls them: the exports alone, over [`auc_call`] and [`auc_dense`].
 //!
 //! Each export takes what a C program holds: numbers, references to `#[repr(C)]` structs, and slices as a pointer and a
 //! length. What a call answers is a status; the rest goes out through `&mut`. No call keeps anything after its return.
@@ -10,15 +10,16 @@ ghost use Rattle.auc_graph.specs.InMemory.{problem_from};
 ghost use Rattle.auc_call.specs.Memory.{memory};
 ghost use Rattle.auc_call.specs.Start.{start_fault, start_fault_by_messages};
 ghost use Rattle.auc_call.specs.Limited.{IsLimitTold};
-ghost use Rattle.auc_call.specs.Naming.{ByObjects};
 ghost use Rattle.auc_call.specs.Running.{IsRunTold};
-ghost use Rattle.auc_call.specs.Table.{table_problem};
-ghost use Rattle.auc_call.specs.Told.{IsClaimChecked, IsHallChecked, IsListTold, IsTableTold};
+ghost use Rattle.auc_call.specs.Told.{IsClaimChecked, IsHallChecked, IsListTold};
+ghost use Rattle.auc_dense.specs.Naming.{ByObjects};
+ghost use Rattle.auc_dense.specs.Table.{table_problem};
+ghost use Rattle.auc_dense.specs.Told.{IsTableTold};
 
 use auc_call::{
-    Found, GivenArcs, GivenTable, Run, check_call, check_hall_call, solve_by_messages_call,
-    solve_call, solve_table_call,
+    Found, GivenArcs, Run, check_call, check_hall_call, solve_by_messages_call, solve_call,
 };
+use auc_dense::{GivenTable, solve_table_call};
 use auc_graph::Arc;
 use std::alloc::Global;
 
@@ -62,7 +63,7 @@ pub extern "C" fn sigdorf_solve(
 }
 
 /// Solves as [`sigdorf_solve`] does, but the problem of a table, where an entry that equals `none` is no arc, and with
-/// objects in place of arcs: see [`auc_call::solve_table_call`].
+/// objects in place of arcs: see [`auc_dense::solve_table_call`].
 #[unsafe(no_mangle)]
 pub extern "C" fn sigdorf_solve_dense(
     alloc: Global,

@@ -6,7 +6,7 @@ use Rattle.std.proofs.lemmas.Option.{slice_get-get_or}
 use Rattle.auc_graph.specs.declared.arc.Arc.{Arc}
 use Rattle.auc_claim.specs.declared.lists.Pick.{Pick}
 use Rattle.auc_claim.specs.Claim.{arc_of}
-use Rattle.auc_call.specs.Naming.{no_arc}
+use Rattle.auc_call.specs.Memory.{no_arc}
 use Rattle.auc_call.proofs.PlaceLaws.{all_at, no_pick}
 use Rattle.auc_call.proofs.places.are_places.Goals as goal
 

@@ -1,6 +1,0 @@
-use Rattle.std.specs.Prelude.{All, take}
-use Rattle.auc_call.specs.Tried.{IsPlainPrice}
-use Rattle.auc_call.proofs.trying.are_plain.Given as goal
-
-abbrev pub invariant-loop-price : goal.invariant-loop-price
-invariant-loop-price l = All IsPlainPrice (take l.price-index l.prices)

@@ -1,5 +1,0 @@
-use Rattle.auc_call.specs.Tried.{AreBest}
-use Rattle.auc_call.proofs.trying.best_picks.Given as goal
-
-abbrev pub invariant-loop-person : goal.invariant-loop-person
-invariant-loop-person l = AreBest l.objects l.costs l.stride l.gap l.prices l.person l.picks.items

@@ -1,0 +1,26 @@
+use Rattle.std.proofs.Common.{ℕ, List, length, ap, arith, refl, rules, subst, w64}
+use Rattle.std.specs.Prelude.{FitsSigned, ℤ}
+use Rattle.std.proofs.lemmas.Int.{to_z-of_z}
+use Rattle.auc_call.specs.Memory.{memory}
+use Rattle.auc_call.specs.Start.{start_fault}
+use Rattle.auc_dense.specs.Table.{IsTable, table_problem}
+use Rattle.auc_dense.specs.TableSolving.{AreTableSizes}
+use Rattle.auc_dense.proofs.table_solving.solve_table_into.Goals as goal
+
+pub returns-in-Some : goal.returns-in-Some
+returns-in-Some c =
+    let gap_fits : FitsSigned w64 c.args.given.now.gap = search rules in
+    let cost_fits : FitsSigned w64 c.in-Some.cost = search rules in
+    let wanted = c.objects_or-wanted.ensures in
+    let sizes : AreTableSizes (table_problem c.args.given.now.persons c.args.given.now.objects c.args.given.now.costs.now c.args.given.now.stride c.args.given.now.gap) c.args.given.now.stride (length c.args.given.now.costs.now) (memory c.args.choice.now c.args.prices.now c.args.set.now) = record {
+      table = subst (λ (m : ℕ). IsTable c.args.given.now.persons m c.args.given.now.stride (length c.args.given.now.costs.now)) wanted (c.is_table.ensures.0 c.if-not-is_table.false);
+      memory = record {
+        choice = omega (arith, c.if-choice-places.false);
+        prices = omega (arith, c.if-prices-wanted.false, wanted);
+        set = omega (arith, c.if-set-places.false);
+      };
+    } in
+    let none = rw c.in-Some.is at c.in_ok-found.ensures.unstarted in
+    let told = rw c.in-Some.is at c.in_ok-found.ensures.quick in
+    let found = simp (to_z-of_z, c.objects_or-wanted.ensures) at told in
+    simp to_z-of_z (sizes, ap (λ (zs : List ℤ). start_fault (table_problem c.args.given.now.persons c.args.given.now.objects c.args.given.now.costs.now c.args.given.now.stride c.args.given.now.gap) zs) none, (found, refl))

@@ -1,0 +1,17 @@
+//! The solver over a table in a caller's memory: [`solve_table_call`] is what the crate `sigdorf_c` exports for it.
+//!
+//! A search over the table comes first, and what it proposes is tried; else its arcs are written out, and `auc_call`
+//! solves them. The statuses are those of `auc_call`.
+#![tactic(auto)]
+
+mod given;
+mod naming;
+mod quick;
+mod table;
+mod table_call;
+mod table_solving;
+mod trying;
+
+pub use given::GivenTable;
+pub use table::arcs_are_entries;
+pub use table_call::solve_table_call;

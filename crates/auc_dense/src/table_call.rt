@@ -1,0 +1,48 @@
+//! The call over a table.
+
+ghost use Rattle.std.specs.Prelude.{◌≡◌, length, pos};
+ghost use Rattle.auc_call.specs.Memory.{memory};
+ghost use Rattle.auc_call.specs.Start.{start_fault};
+ghost use Rattle.auc_call.specs.Limited.{IsLimitTold};
+ghost use Rattle.auc_dense.specs.Given.{tabled_problem};
+ghost use Rattle.auc_dense.specs.Naming.{ByObjects};
+ghost use Rattle.auc_dense.specs.Told.{IsTableTold};
+
+use crate::given::GivenTable;
+use crate::table_solving::solve_table_into;
+use auc_call::{Found, Run, tell_solved};
+use std::alloc::Global;
+
+/// Solves as [`auc_call::solve_call`] does, but the problem of a table. The arcs are those of the entries that are no
+/// gap, row by row. What stands between rows and after the last one is not looked at.
+///
+/// After [`auc_call::OPTIMAL`] and [`auc_call::BRACKET`] `choice` holds for each person his object in place of his arc.
+/// After [`auc_call::REFUSED`] a cost's `found.place` is that of the entry in a table whose stride is the number of
+/// objects. A stride below that number, and a row that doesn't lie within `costs`, are [`auc_call::SIZES`].
+///
+/// Where `start` is empty a search over the table comes first ([`auc_table::propose`]), in which to look over a row
+/// counts as a bid, and its answer is taken where one pass over the table shows that it is least. That takes
+/// O(persons^2 * objects) time at most, at most 44 bytes of memory an object and 20 a person, and 8 an entry where the
+/// table has gaps. Where it looks at more than 2^24 entries of a table with as many objects as persons, and at more
+/// than 32 times all, and where there is a start, the arcs are written out and solved: that takes the time and memory
+/// of [`auc_call::solve_call`], but for its copy of the arcs, which is the only one here: 16 bytes for each entry that
+/// is no gap.
+pub fn solve_table_call(
+    alloc: Global,
+    given: &GivenTable,
+    run: &Run,
+    choice: &mut [u32],
+    prices: &mut [i64],
+    hall_objects: &mut [u32],
+    found: &mut Found,
+) -> i32
+    ensures told { IsTableTold (tabled_problem given.now) given.now.stride (length given.now.costs.now)
+        (start_fault (tabled_problem given.now) run.now.start.now) result
+        (memory choice.old prices.old hall_objects.old) (memory choice.new prices.new hall_objects.new) found.old found.new }
+    ensures limit { result ≡ pos 4 → ByObjects (tabled_problem given.now).arcs choice.new
+        (λ places. IsLimitTold (tabled_problem given.now) run.now.start.now run.now.bids
+        places prices.new found.new.kind found.new.lower found.new.cost) }
+{
+    let solved = solve_table_into(alloc, given, run, choice, prices, hall_objects);
+    tell_solved(solved, found)
+}

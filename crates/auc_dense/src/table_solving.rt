@@ -1,0 +1,122 @@
+//! A solve of a table over the caller's memory.
+
+ghost use Rattle.std.specs.Prelude.{◌≡◌, None, length, IfOk, IfErr};
+ghost use Rattle.auc_graph.specs.InMemory.{problem_fault};
+ghost use Rattle.auc_graph.specs.Problem.{IsProblem};
+ghost use Rattle.auc_call.specs.Memory.{AreSizes, memory};
+ghost use Rattle.auc_dense.specs.Given.{IsGivenTable, tabled_problem};
+ghost use Rattle.auc_dense.specs.TableSolving.{IsRefused, SolvesArcs, SolvesTable};
+
+use crate::given::GivenTable;
+use crate::naming::name_objects;
+use crate::quick::solve_quickly;
+use crate::table::{arcs_of_table, count_arcs, is_table};
+use auc_call::{Driver, Failed, Run, Solved, solve_problem};
+use auc_graph::{ArcList, list_fault, objects_or};
+use auc_table::Table;
+use std::alloc::{AllocError, Global};
+
+/// How many arcs a table has, whose problem has no fault; or its first fault, for which no memory is taken.
+fn arcs_of_problem(given: &GivenTable) -> Result<usize, Failed>
+    requires { IsGivenTable given.now }
+    ensures problem { IfOk result (λ count. IsProblem (tabled_problem given.now)) }
+    ensures faultless { IfOk result (λ count. problem_fault (tabled_problem given.now) ≡ None) }
+    ensures refused { IfErr result (IsRefused (tabled_problem given.now)) }
+{
+    let GivenTable {
+        persons,
+        objects,
+        costs,
+        stride,
+        gap,
+    } = *given;
+    if let Some(fault) = list_fault(persons, objects, &[]) {
+        return Err(Failed::Fault(fault));
+    }
+    let wanted = objects_or(objects, persons);
+    let count = count_arcs(persons, wanted, costs, stride, gap)?;
+    Ok(count)
+}
+
+/// The problem of a table that has so many arcs, and no fault.
+fn problem_of_table(alloc: Global, given: &GivenTable, count: usize) -> Result<ArcList, AllocError>
+    requires table { IsGivenTable given.now }
+    requires problem { IsProblem (tabled_problem given.now) }
+    requires faultless { problem_fault (tabled_problem given.now) ≡ None }
+    ensures { IfOk result (λ p. p ≡ tabled_problem given.now) }
+{
+    let GivenTable {
+        persons,
+        objects,
+        costs,
+        stride,
+        gap,
+    } = *given;
+    let wanted = objects_or(objects, persons);
+    let arcs = arcs_of_table(alloc, persons, wanted, costs, stride, gap, count)?;
+    match ArcList::from_arcs(persons, objects, arcs) {
+        Ok(problem) => Ok(problem),
+        Err(_) => unreachable!("no arc is at fault"),
+    }
+}
+
+/// Solves a problem of a table by its arcs, and writes objects in place of them.
+fn solve_arcs(
+    alloc: Global,
+    problem: &ArcList,
+    run: &Run,
+    choice: &mut [u32],
+    prices: &mut [i64],
+    set: &mut [u32],
+) -> Result<Solved, Failed>
+    requires { AreSizes problem.now (memory choice.old prices.old set.old) }
+    ensures { SolvesArcs problem.now run.now.start.now run.now.bids
+        (memory choice.old prices.old set.old) (memory choice.new prices.new set.new) result }
+{
+    let solved = solve_problem(alloc, Driver::Direct, problem, run, choice, prices, set)?;
+    name_objects(problem.arcs(), solved, choice);
+    Ok(solved)
+}
+
+/// Solves the problem of a table in one hand, and writes the answer into the caller's memory, with objects in place of
+/// arcs. Where there is no start, a search over the table itself comes first.
+pub(crate) fn solve_table_into(
+    alloc: Global,
+    given: &GivenTable,
+    run: &Run,
+    choice: &mut [u32],
+    prices: &mut [i64],
+    set: &mut [u32],
+) -> Result<Solved, Failed>
+    ensures { SolvesTable (tabled_problem given.now) given.now.stride (length given.now.costs.now) run.now.start.now
+        run.now.bids (memory choice.old prices.old set.old) (memory choice.new prices.new set.new) result }
+{
+    let GivenTable {
+        persons,
+        objects,
+        costs,
+        stride,
+        gap,
+    } = *given;
+    let wanted = objects_or(objects, persons);
+    let places = persons as usize;
+    if choice.len() != places || prices.len() != wanted as usize || set.len() != places {
+        return Err(Failed::Sizes);
+    }
+    if !is_table(persons, wanted, stride, costs.len()) {
+        return Err(Failed::Sizes);
+    }
+    let count = arcs_of_problem(given)?;
+    let table = Table {
+        persons,
+        objects: wanted,
+        stride,
+        costs,
+    };
+    let found = solve_quickly(alloc, &table, gap, count, run, choice, prices)?;
+    if let Some(cost) = found {
+        return Ok(Solved::Optimal { cost });
+    }
+    let problem = problem_of_table(alloc, given, count)?;
+    solve_arcs(alloc, &problem, run, choice, prices, set)
+}

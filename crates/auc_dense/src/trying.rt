@@ -1,0 +1,168 @@
+//! Whether what was proposed for a table shows a least assignment of it. Nothing is known of a proposal, so all of it
+//! is looked at.
+
+ghost use Rattle.std.specs.Prelude.{◌≡◌, ◌≢◌, ◌<◌, ◌≤◌, ◌^◌, pos, neg_ℤ, ◌+ℤ◌, ◌≤ℤ◌, All, IsTrue, IfOk, IfSome, length};
+ghost use Rattle.auc_graph.specs.declared.limits.TheConstants.{MOST_PERSONS};
+ghost use Rattle.auc_dense.specs.Table.{IsTable};
+ghost use Rattle.auc_dense.specs.Tried.{AreBest, AreHeldApart, AreOthersFree, IsBestIn, IsNoneBelow, IsPlainPrice, ShowLeast};
+
+use crate::table::row_of;
+use auc_claim::Pick;
+use auc_graph::MOST_COST;
+use auc_table::{HIGHEST_TAKEN, Proposal};
+use std::alloc::{AllocError, Global};
+
+/// Whether all prices are from 0 to the highest.
+fn are_plain(prices: &[i64]) -> bool
+    ensures { IsTrue result → All IsPlainPrice prices.now }
+{
+    for price in prices {
+        if *price < 0 || HIGHEST_TAKEN < *price {
+            return false;
+        }
+    }
+    true
+}
+
+/// Whether an entry is a gap, or worth no less than this with its price.
+#[inline(always)]
+fn is_no_better(cost: i64, gap: i64, price: i64, least: i64) -> bool
+    requires price { IsPlainPrice price }
+    requires low { neg_ℤ (pos (2 ^ 62)) ≤ℤ least }
+    requires high { least ≤ℤ pos (2 ^ 62) }
+    ensures { IsTrue result → cost ≢ gap → least ≤ℤ (cost +ℤ price) }
+{
+    cost == gap || least - price <= cost
+}
+
+/// Whether no entry of a row that is no gap is worth less than this.
+// It goes through the whole row, so that the compiler takes several entries at a time.
+#[inline(never)]
+fn is_none_below(row: &[i64], gap: i64, prices: &[i64], least: i64) -> bool
+    requires len { length prices.now ≡ length row.now }
+    requires prices { All IsPlainPrice prices.now }
+    requires low { neg_ℤ (pos (2 ^ 62)) ≤ℤ least }
+    requires high { least ≤ℤ pos (2 ^ 62) }
+    ensures { IsTrue result → IsNoneBelow gap row.now prices.now least (length row.now) }
+{
+    let mut is_none = true;
+    for object in 0..row.len() {
+        let is_no_better = is_no_better(row[object], gap, prices[object], least);
+        is_none = is_none && is_no_better;
+    }
+    is_none
+}
+
+/// The pick of an object, where its entry is no gap, and none of the row is better.
+fn best_pick(row: &[i64], gap: i64, prices: &[i64], object: u32) -> Option<Pick>
+    requires len { length prices.now ≡ length row.now }
+    requires prices { All IsPlainPrice prices.now }
+    ensures { IfSome result (IsBestIn gap row.now prices.now) }
+{
+    if object as usize >= row.len() {
+        return None;
+    }
+    let cost = row[object as usize];
+    if cost == gap || cost < -MOST_COST || MOST_COST < cost {
+        return None;
+    }
+    let least = cost + prices[object as usize];
+    if !is_none_below(row, gap, prices, least) {
+        return None;
+    }
+    Some(Pick { cost, object })
+}
+
+/// The picks of these objects, where each is the best of its row.
+fn best_picks(
+    alloc: Global,
+    objects: u32,
+    costs: &[i64],
+    stride: usize,
+    gap: i64,
+    choice: &[u32],
+    prices: &[i64],
+) -> Result<Option<Vec<Pick>>, AllocError>
+    requires few { length choice.now ≤ MOST_PERSONS }
+    requires table { IsTable (length choice.now) objects stride (length costs.now) }
+    requires len { length prices.now ≡ objects }
+    requires prices { All IsPlainPrice prices.now }
+    ensures { IfOk result (λ o. IfSome o (λ picks. AreBest objects costs.now stride gap prices.now (length choice.now) picks.items)) }
+{
+    let mut picks = Vec::with_capacity(alloc, choice.len())?;
+    for person in 0..choice.len() {
+        let row = row_of(costs, stride, objects, person as u32);
+        match best_pick(row, gap, prices, choice[person]) {
+            Some(pick) => picks.push(pick)?,
+            None => return Ok(None),
+        }
+    }
+    Ok(Some(picks))
+}
+
+/// Whether each object that is picked is held by who picks it.
+fn are_held_apart(picks: &[Pick], holders: &[u32]) -> bool
+    requires { length picks.now ≤ MOST_PERSONS }
+    ensures { IsTrue result → AreHeldApart picks.now holders.now }
+{
+    for person in 0..picks.len() {
+        let object = picks[person].object as usize;
+        if object >= holders.len() || holders[object] as usize != person {
+            return false;
+        }
+    }
+    true
+}
+
+/// Whether each object that has a price is picked, by who holds it.
+fn are_others_free(picks: &[Pick], holders: &[u32], prices: &[i64]) -> bool
+    ensures { IsTrue result → AreOthersFree picks.now prices.now }
+{
+    for object in 0..prices.len() {
+        if prices[object] != 0 {
+            if object >= holders.len() {
+                return false;
+            }
+            let holder = holders[object] as usize;
+            if holder >= picks.len() || picks[holder].object as usize != object {
+                return false;
+            }
+        }
+    }
+    true
+}
+
+/// The picks of a proposal, where with its prices they show a least assignment of the table.
+pub(crate) fn try_out(
+    alloc: Global,
+    persons: u32,
+    objects: u32,
+    costs: &[i64],
+    stride: usize,
+    gap: i64,
+    proposal: &Proposal,
+) -> Result<Option<Vec<Pick>>, AllocError>
+    requires few { persons ≤ MOST_PERSONS }
+    requires table { IsTable persons objects stride (length costs.now) }
+    ensures { IfOk result (λ o. IfSome o (λ picks. ShowLeast persons objects costs.now stride gap picks.items proposal.now.prices.items)) }
+{
+    let prices = proposal.prices.as_slice();
+    let holders = proposal.holders.as_slice();
+    if proposal.objects.len() != persons as usize || prices.len() != objects as usize {
+        return Ok(None);
+    }
+    if !are_plain(prices) {
+        return Ok(None);
+    }
+    let choice = proposal.objects.as_slice();
+    let Some(picks) = best_picks(alloc, objects, costs, stride, gap, choice, prices)? else {
+        return Ok(None);
+    };
+    if !are_held_apart(picks.as_slice(), holders) {
+        return Ok(None);
+    }
+    if !are_others_free(picks.as_slice(), holders, prices) {
+        return Ok(None);
+    }
+    Ok(Some(picks))
+}

@@ -47,7 +47,7 @@ class Letters(ReadingTest):
 
 class Places(ReadingTest):
     def test_titles_above(self):
-        for above, lines in [("Week 48,,\n", "line 1 stands"), ("Week 48\n", "line 1 stands"), ("Week 48,,\n,,\nnorth,,\n", "2 lines down to 3 stand")]:
+        for above, lines in [("Week 48,,\n", "line 1 is"), ("Week 48\n", "line 1 is"), ("Week 48,,\n,,\nnorth,,\n", "2 lines down to 3 are")]:
             arcs, said = self.read_as(above + TABLE, "--matrix")
             self.assertEqual(arcs, CREW)
             self.assertIn(f"note: table.csv: {lines} above the header", said)

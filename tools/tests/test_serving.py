@@ -73,10 +73,10 @@ class Guards(ServedTest):
         """Without the cookie nothing is read and nothing is done, whatever the token."""
         page = self.serve(CREW)
         for path in ("/view", "/fields", "/cells?row=0&column=0&rows=1&columns=1", "/find?name=A", "/picture.svg", "/plan.xlsx", "/plan.csv", f"/view?{page.query}"):
-            self.assert_refused(page.ask(path), 403, "open the one that plan has told")
+            self.assert_refused(page.ask(path), 403, "open the one that plan has printed")
             self.assert_refused(page.ask(path, Cookie=f"plan_{page.port}=wrong"), 403, "open the page anew")
         for path in ("/table?name=t.csv", "/options", "/plan"):
-            self.assert_refused(page.ask(path, "POST", b"{}"), 403, "open the one that plan has told")
+            self.assert_refused(page.ask(path, "POST", b"{}"), 403, "open the one that plan has printed")
 
     def test_sessions_are_apart(self):
         page = self.serve()

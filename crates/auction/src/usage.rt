@@ -66,7 +66,8 @@ none. Without CERT the certificate is read from standard input. A name that begi
 
   --objects M     the problem has M objects, 1 to 20000, and no fewer than persons; without it as many as persons
 
-Status 0: the claim holds; 3: it doesn't; 2: the arguments are no command; 5: an input is refused; 6: want of memory; 8: not all was written.";
+Status 0: the claim holds; 3: it doesn't; 2: the arguments are no command; 5: an input is refused; 6: want of memory; 8: not all
+was written.";
 
 /// What `auction hall --help` writes.
 pub(crate) const HALL_PAGE: &str = "usage: auction hall [FILE] [--objects M]

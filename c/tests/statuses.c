@@ -16,7 +16,7 @@ static sigdorf_found found;
 /* Two persons and two objects: the least cost is 3. */
 static sigdorf_arc two[] = {{1, 0, 0}, {2, 0, 1}, {1, 1, 0}, {4, 1, 1}};
 
-/* In one hand, or by messages. */
+/* Direct, or by messages. */
 static int32_t (*solver)(uint32_t, uint32_t, const sigdorf_arc *, size_t, const int64_t *, size_t, uint64_t, uint32_t *, size_t, int64_t *, size_t,
                          uint32_t *, size_t, sigdorf_found *) = sigdorf_solve;
 

@@ -1,8 +1,9 @@
--- All of this is the crate's own.
+-- for use above
+pub mod Seats
+pub mod Settled
+pub mod Lines
+-- for this crate
 mod Noting
 mod LockedMailLaws
-mod Lines
-mod Seats
 mod Telling
-mod Settled
 mod WorkedRows

@@ -1,4 +1,4 @@
--- Where a run in one hand starts, and what is told of a limit that has stopped it.
+-- Where a direct run starts, and what is told of a limit that has stopped it.
 use Rattle.std.proofs.Common.{◌≡◌, ◌≢◌, ℕ, List, [], ◌∷◌, refl, sym, subst, ◌∙◌, arith}
 use Rattle.std.specs.Prelude.{ℤ, pos, Result, Ok, Err, IfOk}
 use Rattle.auc_graph.specs.Problem.{Problem}

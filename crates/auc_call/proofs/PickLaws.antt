@@ -8,7 +8,8 @@ use Rattle.auc_claim.specs.declared.lists.Pick.{Pick}
 use Rattle.auc_claim.specs.Claim.{arc_of, chosen, pick_of}
 use Rattle.auc_call.specs.Memory.{AreAt, no_arc}
 use Rattle.auc_call.specs.Checking.{IsMisplaced}
-use Rattle.auc_call.proofs.PlaceLaws.{no_pick, length_chosen, chosen_at}
+use Rattle.auc_call.proofs.PlaceLaws.{no_pick, chosen_at}
+use Rattle.auc_claim.proofs.ClaimLaws.{length_chosen}
 
 chosen_push : (k : ℕ) (picks : List Pick) (p : Pick) → chosen k (picks ++ p ∷ []) ≡ chosen k picks ++ arc_of (k + length picks) p ∷ []
 chosen_push k [] p = let e : k ≡ k + 0 = omega arith in ap (λ (m : ℕ). arc_of m p ∷ []) e

@@ -7,6 +7,7 @@ use Rattle.auc_graph.specs.Rising.{Rises}
 use Rattle.auc_claim.specs.declared.lists.Pick.{Pick}
 use Rattle.auc_claim.specs.Claim.{arc_of, chosen}
 use Rattle.auc_call.specs.Memory.{AreAt, no_arc}
+use Rattle.auc_claim.proofs.ClaimLaws.{length_chosen}
 
 abbrev pub no_pick : Pick
 no_pick = record { cost = pos 0; object = 0 }
@@ -14,10 +15,6 @@ no_pick = record { cost = pos 0; object = 0 }
 -- of each person whose pick stands among the first n arcs, a place of it was written
 abbrev pub Placed : List Arc → List Pick → List ℕ → ℕ → Type 0
 Placed arcs picks choice n = (i j : ℕ) → i < length picks → j < n → get_or arcs j no_arc ≡ arc_of i (get_or picks i no_pick) → slice_get arcs (get_or choice i 0) ≡ Some (arc_of i (get_or picks i no_pick))
-
-pub length_chosen : (k : ℕ) (picks : List Pick) → length (chosen k picks) ≡ length picks
-length_chosen k [] = refl
-length_chosen k (p ∷ picks) = ap suc (length_chosen (k + 1) picks)
 
 pub chosen_at : (k i : ℕ) (picks : List Pick) (d : Arc) → i < length picks → get_or (chosen k picks) i d ≡ arc_of (k + i) (get_or picks i no_pick)
 chosen_at k i [] d lt = absurd (omega arith)

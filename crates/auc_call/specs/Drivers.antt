@@ -1,4 +1,4 @@
--- What is said of a run by each solver: in one hand, that only a limit leaves a bracket; by messages, which run it is.
+-- What is said of a run by each solver: directly, that only a limit leaves a bracket; by messages, which run it is.
 use Rattle.std.specs.Prelude.{◌≡◌, ◌≢◌, ℕ, ℤ, pos, List}
 use Rattle.auc_graph.specs.Problem.{Problem}
 use Rattle.auc_answers.specs.declared.answer.Answer.{Answer}

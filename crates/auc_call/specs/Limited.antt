@@ -1,4 +1,4 @@
--- A run in one hand leaves a bracket only where one of its limits has stopped it.
+-- A direct run leaves a bracket only where one of its limits has stopped it.
 use Rattle.std.specs.Prelude.{◌≡◌, ℕ, ℤ, pos, List, [], ◌∷◌}
 use Rattle.auc_graph.specs.Problem.{Problem}
 use Rattle.auc_claim.specs.declared.lists.Pick.{Pick}

@@ -17,7 +17,7 @@ is_outside price = int_lt price (pos 0) || int_lt highest_start price
 abbrev pub outside : List ℤ → Option ℕ
 outside prices = position is_outside prices
 
--- a run in one hand starts from a price for each object
+-- a direct run starts from a price for each object
 abbrev pub prices_fault : Problem → List ℤ → Option StartFault
 prices_fault p prices = if not (length prices == p.objects) then Some OtherSize else option_map (λ j. Price j) (outside prices)
 

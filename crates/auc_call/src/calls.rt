@@ -25,7 +25,7 @@ use std::alloc::Global;
 /// `found.persons` persons, and `hall_objects` with the `found.objects` objects that they know, both rising. All else
 /// stays as it was.
 ///
-/// The solver is the one in one hand, [`auc_direct::solve_direct`], or from a start [`auc_direct::solve_direct_from`],
+/// The solver is the direct one, [`auc_direct::solve_direct`], or from a start [`auc_direct::solve_direct_from`],
 /// whose time and memory it takes, beside a copy of the arcs. Clause `limit` says where a bracket is left.
 pub fn solve_call(
     alloc: Global,

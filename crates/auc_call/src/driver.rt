@@ -18,13 +18,13 @@ use std::alloc::{AllocError, Global};
 /// Which solver answers a call.
 #[derive(Clone, Copy, Debug, PartialEq, Eq)]
 pub enum Driver {
-    /// The one in one hand, which starts from any prices.
+    /// The direct one, which starts from any prices.
     Direct,
     /// The one by messages, which starts only where there are as many objects as persons.
     Messages,
 }
 
-/// What the solver in one hand answers, from these prices where there are any.
+/// What the direct solver answers, from these prices where there are any.
 fn answer_directly(
     alloc: Global,
     problem: &ArcList,

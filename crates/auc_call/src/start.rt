@@ -39,7 +39,7 @@ fn outside(prices: &[i64]) -> Option<u32>
     None
 }
 
-/// Why no run in one hand can start from these prices.
+/// Why no direct run can start from these prices.
 fn prices_fault(problem: &ArcList, start: &[i64]) -> Option<StartFault>
     ensures exact { result ≡ prices_fault problem.now start.now }
     ensures start { result ≡ None → AreStartPrices problem.now start.now }

@@ -12,9 +12,11 @@ use Rattle.auc_cert.specs.Text.{assign_line, price_line, numbered, joined, choic
 use Rattle.auc_cert.specs.CertReading.{IsFirstBadOf, ChoiceLines}
 use Rattle.auc_cert.specs.Runs.{IsRun, BreaksOff, From}
 use Rattle.auc_cert.specs.SecondLine.{AreCounted}
-use Rattle.auc_cert.proofs.RunLaws.{picks_apart, prices_apart, same_run, same_rest, next_of, numbered_append}
+use Rattle.auc_cert.proofs.RunLaws.{picks_apart, prices_apart, same_run, same_rest, next_of}
 use Rattle.auc_claim.proofs.VersionLaws.{most_is_few, most_is_some}
 use Rattle.auc_cert.proofs.TextLines.{AreLines, GoesOn, bad_of, picks_lines, prices_lines, lines_append}
+use Rattle.auc_graph.proofs.PriceLaws.{zero_is_price}
+use Rattle.auc_cert.proofs.WriteLaws.{numbered_append}
 
 -- ---- picks and prices that complete those that were read
 
@@ -24,9 +26,6 @@ no_pick_at_all = record { object = 0; cost = pos 0 }
 pub blank_is_pick : (most : ℕ) → 0 < most → IsPick most no_pick_at_all
 unfolding no_pick_at_all
 blank_is_pick most some = record { object = some; low = omega (arith, ints); high = omega (arith, ints) }
-
-pub zero_is_price : IsPrice (pos 0)
-zero_is_price = record { low = omega (arith, ints); high = omega (arith, ints) }
 
 pub length_numbered : {X : Type 0} (line : ℕ → X → List ℕ) (k : ℕ) (xs : List X) → length (numbered line k xs) ≡ length xs
 length_numbered line k [] = refl

@@ -10,12 +10,13 @@ use Rattle.auc_cert.specs.CertReading.{IsFirstBadOf, NameLines}
 use Rattle.auc_cert.specs.SecondLine.{AreCounts, least_named, least_last}
 use Rattle.auc_cert.specs.Runs.{IsRisingRun, BreaksRising, From}
 use Rattle.auc_claim.specs.Spelled.{IsBelow}
-use Rattle.auc_cert.proofs.RunLaws.{numbers_apart, same_run, same_rest, goes_beyond, numbered_append}
+use Rattle.auc_cert.proofs.RunLaws.{numbers_apart, same_run, same_rest, goes_beyond}
 use Rattle.auc_claim.proofs.RisingLaws.{rises_append, rises_from_lower, rises_below_higher, next_rises, rises_room, behind_top, behind_push, counted, counted_rises, length_counted, are_indices}
 use Rattle.auc_claim.proofs.VersionLaws.{most_is_few, most_above}
 use Rattle.auc_cert.proofs.SizeLaws.{last_is_in, rises_in, last_in, named_as, named_from}
 use Rattle.auc_cert.proofs.TextLines.{AreLines, GoesOn, bad_of, numbers_lines, lines_append}
 use Rattle.auc_cert.proofs.ChoiceLaws.{length_numbered, joined_append}
+use Rattle.auc_cert.proofs.WriteLaws.{numbered_append}
 
 few_rise : (end : ℕ) (numbers : List ℕ) → Rises 0 end numbers → length numbers ≤ end
 few_rise end numbers p = let room : 0 + length numbers ≤ end = rises_room 0 end numbers (omega arith) p in omega arith

@@ -114,11 +114,6 @@ next_of X line ok k (x ∷ xs) (y ∷ ys) t more all lt e =
     let at : k + 1 + length xs ≡ k + suc (length xs) = omega arith in
     subst (λ (m : ℕ). NextLine X line ok m more) at r
 
-pub numbered_append : {X : Type 0} (line : ℕ → X → List ℕ) (k : ℕ) (xs ys : List X) → numbered line k (xs ++ ys) ≡ numbered line k xs ++ numbered line (k + length xs) ys
-numbered_append line k [] ys = ap (λ (m : ℕ). numbered line m ys) (omega arith)
-numbered_append line k (x ∷ xs) ys =
-    ap (λ (r : List (List ℕ)). line k x ∷ r) (numbered_append line (k + 1) xs ys ∙ ap (λ (m : ℕ). numbered line (k + 1) xs ++ numbered line m ys) (omega arith))
-
 -- a longer run goes on after a shorter one
 pub record GoesBeyond (X : Type 0) (line : ℕ → X → List ℕ) (xs ys : List X) (k : ℕ) (more : List (List ℕ)) : Type 0 where
   pub value : X

@@ -15,6 +15,7 @@ use Rattle.auc_cert.specs.CertReading.{IsMark}
 use Rattle.auc_cert.specs.Fields.{◌>>=◌, viewed, after, onto, word_at, word_value, spelled, field_at}
 use Rattle.auc_cert.proofs.WriteLaws.{tail}
 use Rattle.auc_cert.proofs.NumberWords.{number_goes_on, pointwise_self}
+use Rattle.auc_graph.proofs.InMemoryLaws.{true_from}
 
 -- ---- steps that gave a value
 
@@ -30,10 +31,6 @@ guard_some true x y e = (refl, cc)
 guard_some false x y e = absurd cc
 
 -- ---- tests of signed numbers
-
-true_from : (b : Bool) → T b → b ≡ true
-true_from true t = refl
-true_from false t = absurd t
 
 pub int_le_yes : (a b : ℤ) → int_le a b ≡ true → a ≤ℤ b
 int_le_yes a b h = le_z_yes (subst (λ (t : Bool). T t) (sym h) tt)

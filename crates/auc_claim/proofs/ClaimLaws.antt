@@ -294,7 +294,7 @@ from_flags test xs slice flags r same are is = sym (place_in_map (λ (b : Bool).
 pub from_flags_not : (test : Arc → Bool) (xs : List Arc) (slice flags : List Bool) (r : Option ℕ) → slice ≡ flags → flags ≡ map test xs → r ≡ position (is_flag false) slice → position (λ x. not (test x)) xs ≡ r
 from_flags_not test xs slice flags r same are is = sym (place_in_map (λ (b : Bool). not b) test xs) ∙ ap (position (λ (b : Bool). not b)) (sym (same ∙ are)) ∙ sym is
 
-length_chosen : (k : ℕ) (picks : List Pick) → length (chosen k picks) ≡ length picks
+pub length_chosen : (k : ℕ) (picks : List Pick) → length (chosen k picks) ≡ length picks
 length_chosen k [] = refl
 length_chosen k (p ∷ picks) = ap suc (length_chosen (k + 1) picks)
 

@@ -4,10 +4,10 @@ pub mod HallLaws
 pub mod Converse
 pub mod RisingLaws
 pub mod VersionLaws
+pub mod StartLaws
 -- for this crate
 mod CostSums
 mod ValueLaws
 mod RepeatLaws
 mod FlagLaws
 mod SlackLaws
-mod StartLaws

@@ -16,6 +16,7 @@ use Rattle.auc_graph.specs.declared.limits.TheConstants.{MOST_PERSONS, MOST_COST
 use Rattle.auc_graph.specs.Price.{IsPrice}
 use Rattle.auc_graph.specs.Dual.{arc_value, price_at}
 use Rattle.auc_claim.specs.Claim.{is_slack_beside}
+use Rattle.auc_graph.proofs.BoundLaws.{scaled_abs}
 
 pub wide : (z : ℤ) → FitsSigned w64 z → FitsSigned w128 z
 wide z f = omega (arith, ints, f)
@@ -42,13 +43,6 @@ pub value_more_fits : (s : ℕ) (c p : ℤ) → s < 2 ^ 32 → FitsSigned w64 c 
 value_more_fits s c p lt f g = omega (arith, ints, product_low s c lt f, g)
 
 -- ---- small costs and prices
-
-scaled_abs : (s : ℕ) (c : ℤ) → s ≤ MOST_PERSONS + 1 → neg_ℤ MOST_COST ≤ℤ c → c ≤ℤ MOST_COST → unsigned_abs (pos s *ℤ c) ≤ 10001 * 10 ^ 9
-scaled_abs s c le low high =
-    let abs : unsigned_abs (pos s *ℤ c) ≡ s * unsigned_abs c = unsigned_abs-mul (pos s) c in
-    let small : unsigned_abs c ≤ 10 ^ 9 = omega (arith, ints, low, high) in
-    let more : s * unsigned_abs c ≤ s * 10 ^ 9 = mul-le-mul_left s small in
-    omega (arith, abs, more, le)
 
 module _ (s : ℕ) (c p : ℤ) (le : s ≤ MOST_PERSONS + 1) (low : neg_ℤ MOST_COST ≤ℤ c) (high : c ≤ℤ MOST_COST) (price : IsPrice p) where
   pub small_product : FitsSigned w64 (pos s *ℤ c)

@@ -23,11 +23,11 @@ use Rattle.auc_graph.proofs.Scale.{scale-add, scale-mono}
 use Rattle.auc_claim.specs.declared.lists.Pick.{Pick}
 use Rattle.auc_claim.specs.declared.cert.CertParts.{CertParts}
 use Rattle.auc_claim.specs.Claim.{arc_of, chosen, pick_of}
-use Rattle.auc_claim.proofs.ClaimLaws.{faultless_is_allowed, objects_are, persons_are}
+use Rattle.auc_claim.proofs.ClaimLaws.{faultless_is_allowed, objects_are, persons_are, length_chosen}
 use Rattle.auc_claim.proofs.Converse.{assignment_spelled, back, slack_right_faultless}
 use Rattle.auc_call.specs.Memory.{AreAt, no_arc}
 use Rattle.auc_call.specs.Shown.{IsLeastAt}
-use Rattle.auc_call.proofs.PlaceLaws.{chosen_at, length_chosen}
+use Rattle.auc_call.proofs.PlaceLaws.{chosen_at}
 use Rattle.auc_dense.specs.Naming.{ByObjects, objects_at}
 use Rattle.auc_dense.specs.Table.{IsTable, row_of, table_arcs}
 use Rattle.auc_dense.specs.Tried.{IsPlainPrice, ShowLeast, no_pick, pick_at, scaled}

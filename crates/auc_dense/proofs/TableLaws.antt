@@ -13,6 +13,7 @@ use Rattle.auc_graph.specs.InMemory.{fault_at, first_fault}
 use Rattle.auc_graph.specs.Reading.{is_between}
 use Rattle.auc_dense.specs.Table.{row_of, entry_arcs, row_arcs, table_arcs, at_entry, entry_of}
 use Rattle.auc_dense.specs.Entries.{IsFirstFault, entry_fault}
+use Rattle.auc_graph.proofs.InMemoryLaws.{from_no}
 
 abbrev pub arc_for : ℕ → ℕ → ℤ → Arc
 arc_for person object cost = record { cost = cost; person = person; object = object }
@@ -181,9 +182,6 @@ pub faultless_table : (n m place : ℕ) (costs : List ℤ) (stride : ℕ) (gap :
 faultless_table n m place costs stride gap person e is f =
     let at : place ≡ 0 + length (table_arcs m costs stride gap person) = omega (arith, is) in
     ap (first_fault n m 0) (table_more m costs stride gap person) ∙ faultless_more n m 0 place (table_arcs m costs stride gap person) (row_arcs gap person 0 (row_of m costs stride person)) e at f
-
-from_no : (n m : ℕ) → nat_le n m ≡ false → m < n
-from_no n m e = grind (arith, nat_tests)
 
 few_by : (x y : Bool) (entry : ℕ) → cond x (Some TooManyArcs) (cond y None (Some (Cost entry))) ≡ None → x ≡ false
 few_by true y entry e = absurd cc

@@ -16,22 +16,24 @@ use std::alloc::{AllocError, Global};
 
 /// How many entries the search may look at in any table with as many objects as persons: as many as take some ten
 /// milliseconds.
-const LOOKS: u64 = 16_777_216;
+const LEAST_SCAN_LIMIT: u64 = 16_777_216;
 
 /// How many times it may look at each entry in the mean, where that is more. Where it takes more, bids with lists are
 /// faster.
-const TIMES: u64 = 32;
+const SCANS_PER_ENTRY: u64 = 32;
 
 /// How many entries the search may look at. To look over a row counts as a bid; with more objects than persons nothing
 /// else ends it, since bids are no faster there.
-fn looks_of(persons: u32, objects: u32, bids: u64) -> u64 {
+fn scans_of(persons: u32, objects: u32, bids: u64) -> u64 {
     let row = u64::from(objects);
     let by_bids = row.saturating_mul(bids);
     if persons < objects {
         return by_bids;
     }
     let all = row.saturating_mul(u64::from(persons));
-    LOOKS.max(all.saturating_mul(TIMES)).min(by_bids)
+    LEAST_SCAN_LIMIT
+        .max(all.saturating_mul(SCANS_PER_ENTRY))
+        .min(by_bids)
 }
 
 /// By what costs are multiplied: one more than the persons.
@@ -97,8 +99,8 @@ pub(crate) fn solve_quickly(
     } = *table;
     let has_gaps = count < (persons as usize).saturating_mul(objects as usize);
     let gaps = if has_gaps { Some(gap) } else { None };
-    let looks = looks_of(persons, objects, run.bids);
-    let Some(found) = propose(alloc, table, gaps, looks)? else {
+    let scans = scans_of(persons, objects, run.bids);
+    let Some(found) = propose(alloc, table, gaps, scans)? else {
         return Ok(None);
     };
     let Some(picks) = try_out(alloc, persons, objects, costs, stride, gap, &found)? else {

@@ -6,7 +6,8 @@ use Rattle.std.proofs.lemmas.Int.{ints}
 use Rattle.std.proofs.lemmas.List.{get_or_default, get_or-set_same, get_or-set_other}
 use Rattle.auc_graph.specs.Dual.{price_at}
 use Rattle.auc_graph.specs.Price.{IsPrice}
-use Rattle.auc_market.proofs.Bounds.{product_abs, product_low}
+use Rattle.auc_market.proofs.Bounds.{product_low}
+use Rattle.auc_graph.proofs.ValueBounds.{product_abs}
 
 -- a price in costs of the table that is not too high, scaled
 pub scaled_price : (s d : ℤ) → pos 1 ≤ℤ s → s ≤ℤ pos 10001 → pos 0 ≤ℤ d → d ≤ℤ pos (2 * 10 ^ 14) → IsPrice (s *ℤ d) × FitsSigned w64 (s *ℤ d)

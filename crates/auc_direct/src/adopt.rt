@@ -52,7 +52,7 @@ fn scaled_prices(rows: &FlatRows, mut prices: Vec<i64>) -> Option<Vec<i64>>
     Some(prices)
 }
 
-/// Solves a full table by a search that may scan at most `looks` costs, and tries its proposal. None where the rows
+/// Solves a full table by a search that may scan at most `scans` costs, and tries its proposal. None where the rows
 /// aren't a full table, or where the proposal doesn't show a least assignment. Takes O(persons * objects) time and 8
 /// bytes of memory an arc beside the search.
 ///
@@ -62,7 +62,7 @@ fn scaled_prices(rows: &FlatRows, mut prices: Vec<i64>) -> Option<Vec<i64>>
 pub(crate) fn adopted(
     alloc: Global,
     rows: &FlatRows,
-    looks: u64,
+    scans: u64,
 ) -> Result<Option<Holdings>, AllocError>
     ensures stands { IfOk result (λ o. IfSome o (λ m. Stands rows.now (pos 1) m.prices.items m.holders.items m.owns.items)) }
     ensures have { IfOk result (λ o. IfSome o (λ m. HaveObjects (length rows.now.rows) m.owns.items)) }
@@ -81,7 +81,7 @@ pub(crate) fn adopted(
         stride: objects as usize,
         costs: costs.as_slice(),
     };
-    let Some(proposal) = propose(alloc, &table, None, looks)? else {
+    let Some(proposal) = propose(alloc, &table, None, scans)? else {
         return Ok(None);
     };
     let Proposal {

@@ -3,12 +3,12 @@
 ghost use Rattle.std.specs.Prelude.{◌≡◌, pos, ◌<ℤ◌, ◌≤ℤ◌, IfSome, IfNone};
 ghost use Rattle.auc_market.specs.Eps.{IsEpsOf};
 
-use crate::tuning::STEP;
+use crate::tuning::EPS_DIVISOR;
 use auc_market::LAST_EPS;
 use auc_rows::FlatRows;
 
 /// The greatest number of arcs that a row is taken to have: the greatest number of objects.
-const MOST_PARTS: usize = 20_000;
+const MOST_ROW_ARCS: usize = 20_000;
 
 /// The mean number of arcs of a row.
 fn mean_arcs(rows: &FlatRows) -> i64
@@ -19,7 +19,7 @@ fn mean_arcs(rows: &FlatRows) -> i64
         .arc_count()
         .checked_div(rows.persons() as usize)
         .unwrap_or(1)
-        .clamp(1, MOST_PARTS);
+        .clamp(1, MOST_ROW_ARCS);
     mean as i64
 }
 
@@ -63,6 +63,6 @@ pub(crate) fn next_eps(eps: i64) -> Option<i64>
     if eps <= LAST_EPS {
         return None;
     }
-    let eighth = eps / STEP;
+    let eighth = eps / EPS_DIVISOR;
     Some(if eighth < LAST_EPS { LAST_EPS } else { eighth })
 }

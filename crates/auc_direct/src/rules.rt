@@ -19,7 +19,10 @@
 //! 7. **More objects than persons.** One phase at the last eps, from prices of 0, since an object that nobody holds has
 //!    to have price 0.
 
-use crate::tuning::{CALM, LOOKS, PART, STARTED, STEADY, TABLE};
+use crate::tuning::{
+    CALM_BIDS_PER_PERSON, REFINEMENT_EPS_DIVISOR, REFINEMENT_SCANS_PER_BID, START_BIDS_PER_PERSON,
+    STEADY_DIVISOR, TABLE_SCANS_PER_ENTRY,
+};
 use auc_market::LAST_EPS;
 use auc_rows::FlatRows;
 
@@ -33,11 +36,11 @@ pub(crate) struct Rules {
     steady: u8,
 }
 
-/// What may come between two phases: a refinement with at most `looks` scans, and the last phase with at most `bids`
+/// What may come between two phases: a refinement with at most `scans` scans, and the last phase with at most `bids`
 /// bids; 0 where it isn't tried.
 #[derive(Clone, Copy)]
 pub(crate) struct Between {
-    pub(crate) looks: u64,
+    pub(crate) scans: u64,
     pub(crate) bids: u64,
 }
 
@@ -77,10 +80,10 @@ impl Rules {
         if eps <= LAST_EPS {
             return 0;
         }
-        if made < CALM.saturating_mul(self.persons) {
+        if made < CALM_BIDS_PER_PERSON.saturating_mul(self.persons) {
             return self.persons.saturating_mul(1 + halvings(eps) / 3);
         }
-        if made.abs_diff(self.before).saturating_mul(STEADY) > self.before {
+        if made.abs_diff(self.before).saturating_mul(STEADY_DIVISOR) > self.before {
             self.steady = 0;
             return 0;
         }
@@ -90,14 +93,15 @@ impl Rules {
 
     /// What comes after a phase of `made` bids and before a phase at this eps.
     pub(crate) fn after(&mut self, made: u64, eps: i64) -> Between {
-        let looks = if made < self.before || eps > self.scale / PART {
+        let scans = if made < self.before || eps > self.scale / REFINEMENT_EPS_DIVISOR {
             0
         } else {
-            made.saturating_mul(LOOKS).saturating_add(self.persons)
+            made.saturating_mul(REFINEMENT_SCANS_PER_BID)
+                .saturating_add(self.persons)
         };
         let bids = self.bids_ahead(made, eps);
         self.before = made;
-        Between { looks, bids }
+        Between { scans, bids }
     }
 }
 
@@ -107,14 +111,14 @@ pub(crate) fn bids_from_start(rows: &FlatRows) -> u64 {
     if rows.persons() < rows.objects() {
         return u64::MAX;
     }
-    STARTED.saturating_mul(u64::from(rows.persons()))
+    START_BIDS_PER_PERSON.saturating_mul(u64::from(rows.persons()))
 }
 
 /// The number of entries that the search of a full table may scan. With more objects than persons any number: one phase
 /// at the last eps would take far longer.
-pub(crate) fn looks_at_table(rows: &FlatRows) -> u64 {
+pub(crate) fn scans_of_table(rows: &FlatRows) -> u64 {
     if rows.persons() < rows.objects() {
         return u64::MAX;
     }
-    TABLE.saturating_mul(rows.arc_count() as u64)
+    TABLE_SCANS_PER_ENTRY.saturating_mul(rows.arc_count() as u64)
 }

@@ -10,8 +10,8 @@ ghost use Rattle.auc_direct.specs.Runs.{IsPlayedAt, IsRunOut, Plays};
 
 use crate::adopt::adopted;
 use crate::eps::{coarse_eps, fine_eps, next_eps};
-use crate::rules::{Rules, looks_at_table};
-use crate::tuning::{PACING, SAMPLE};
+use crate::rules::{Rules, scans_of_table};
+use crate::tuning::{PACING, SPREAD_ROWS};
 use auc_market::{Ending, Halt, Holdings, LAST_EPS, Market, Pace, Watch};
 use auc_rows::FlatRows;
 use std::alloc::Global;
@@ -67,7 +67,7 @@ fn play_phases<W: Watch>(
     ensures halt { IfErr result (λ h. IsHalt rows.now h × (W.has_stopped watch.new ≡ W.has_stopped watch.old)) }
 {
     let mut rules = Rules::new(rows);
-    let spread = market.spread(SAMPLE);
+    let spread = market.spread(SPREAD_ROWS);
     let mut eps = fine_eps(rows, spread);
     let mut few = rules.bids_of_first(eps);
     loop {
@@ -87,7 +87,7 @@ fn play_phases<W: Watch>(
         };
         eps = next;
         let between = rules.after(pace.made, eps);
-        if market.refine(between.looks)? {
+        if market.refine(between.scans)? {
             market.law();
             return Ok(ending);
         }
@@ -126,7 +126,7 @@ pub(crate) fn run<W: Watch>(
             holdings: market.into_holdings(ending),
         });
     }
-    if let Some(holdings) = adopted(alloc, rows, looks_at_table(rows))? {
+    if let Some(holdings) = adopted(alloc, rows, scans_of_table(rows))? {
         return Ok(Outcome {
             ending: Ending::Sold,
             holdings,

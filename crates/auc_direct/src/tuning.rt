@@ -3,17 +3,17 @@
 use auc_market::Pacing;
 
 /// Eps is divided by this from phase to phase. From 4 to 16 whole runs take about as long.
-pub(crate) const STEP: i64 = 8;
+pub(crate) const EPS_DIVISOR: i64 = 8;
 
 /// The spread of at least this many rows is taken, where there are as many.
-pub(crate) const SAMPLE: u32 = 512;
+pub(crate) const SPREAD_ROWS: u32 = 512;
 
 /// After a phase of fewer bids a person than this the last phase is tried next: not every person was displaced even
 /// once.
-pub(crate) const CALM: u64 = 2;
+pub(crate) const CALM_BIDS_PER_PERSON: u64 = 2;
 
 /// Two phases take about as many bids where these differ by at most one part in this many.
-pub(crate) const STEADY: u64 = 10;
+pub(crate) const STEADY_DIVISOR: u64 = 10;
 
 /// When chains of bids search, and phases ask a watch.
 pub(crate) const PACING: Pacing = Pacing {
@@ -26,13 +26,13 @@ pub(crate) const PACING: Pacing = Pacing {
 
 /// Prices are refined once the next eps is at most one unit of cost divided by this. On whole costs a phase at eight
 /// times as much has mostly found a least assignment.
-pub(crate) const PART: i64 = 80;
+pub(crate) const REFINEMENT_EPS_DIVISOR: i64 = 80;
 
 /// The number of scans that a refinement may make for each bid of the phase before it.
-pub(crate) const LOOKS: u64 = 2;
+pub(crate) const REFINEMENT_SCANS_PER_BID: u64 = 2;
 
 /// The number of bids a person that a run from start prices may make before it begins as a run without a start.
-pub(crate) const STARTED: u64 = 4;
+pub(crate) const START_BIDS_PER_PERSON: u64 = 4;
 
 /// The number of scans of each entry that the search of a full table may make, with as many objects as persons.
-pub(crate) const TABLE: u64 = 8;
+pub(crate) const TABLE_SCANS_PER_ENTRY: u64 = 8;

@@ -12,7 +12,7 @@ use Rattle.auc_graph.specs.declared.limits.TheConstants.{MOST_PERSONS, MOST_COST
 use Rattle.auc_graph.specs.Problem.{Problem, IsProblem}
 use Rattle.auc_graph.specs.Assignment.{total}
 use Rattle.auc_graph.specs.Price.{IsPrice}
-use Rattle.auc_graph.specs.Dual.{arc_value, lowest, worths, dual, scale_of, EachHasArc}
+use Rattle.auc_graph.specs.Dual.{arc_value, lowest, values, dual, scale_of, EachHasArc}
 use Rattle.auc_graph.proofs.LeastLaws.{table_is}
 
 -- ---- sums, number by number
@@ -46,7 +46,7 @@ values_within p prices is len fair k d lt =
     omega (arith, ints, small, price.high)
 
 pub bound_is : (p : Problem) (prices table : List ℤ) → IsProblem p → EachHasArc p → length prices ≡ p.objects → All IsPrice prices → length table ≡ p.persons
-    → ((i : ℕ) → i < p.persons → get_or table i (pos 0) ≡ lowest (pos (2 ^ 63 - 1)) (worths (arc_value (scale_of p) prices) p.arcs i)) → (total table -ℤ total prices) ≡ dual p prices
+    → ((i : ℕ) → i < p.persons → get_or table i (pos 0) ≡ lowest (pos (2 ^ 63 - 1)) (values (arc_value (scale_of p) prices) p.arcs i)) → (total table -ℤ total prices) ≡ dual p prices
 bound_is p prices table is some len fair many each =
     ap (λ (zs : List ℤ). total zs -ℤ total prices)
     (table_is (arc_value (scale_of p) prices) (pos (2 ^ 63 - 1)) p.persons p.arcs table some (values_within p prices is len fair) many each)

@@ -14,25 +14,25 @@ use Rattle.std.proofs.lemmas.Map.Views.{list_any-from_Contains, Contains-from_an
 use Rattle.auc_graph.specs.declared.arc.Arc.{Arc}
 use Rattle.auc_graph.specs.Problem.{Problem, IsWithin}
 use Rattle.auc_graph.specs.Assignment.{total, person_of, object_of, total_cost, IsAssignment, IsLeast}
-use Rattle.auc_graph.specs.Dual.{scale_of, arc_value, IsSlackRight, least_worth, dual, AreNotNegative, AreFewPriced, IsNoPriceLeft, EachHasArc}
+use Rattle.auc_graph.specs.Dual.{scale_of, arc_value, IsSlackRight, least_value, dual, AreNotNegative, AreFewPriced, IsNoPriceLeft, EachHasArc}
 use Rattle.auc_graph.proofs.LeastLaws.{least_below, least_above}
 use Rattle.auc_graph.proofs.Scale.{once_more, scale-add, scale-cancel, scale-one}
 use Rattle.auc_graph.proofs.PriceSums.{prices_at, some_prices, left_without_price, covers}
 
-pub sum_of_least : (worth : Arc → ℤ) (arcs ys : List Arc) → All (Contains arcs) ys → total (map (least_worth worth arcs) (map person_of ys)) ≤ℤ total (map worth ys)
-sum_of_least worth arcs [] known = omega (arith, ints)
-sum_of_least worth arcs (y ∷ ys) known =
+pub sum_of_least : (value : Arc → ℤ) (arcs ys : List Arc) → All (Contains arcs) ys → total (map (least_value value arcs) (map person_of ys)) ≤ℤ total (map value ys)
+sum_of_least value arcs [] known = omega (arith, ints)
+sum_of_least value arcs (y ∷ ys) known =
     let there = All-head (Contains arcs) y ys known in
-    let here = least_below worth y.person arcs y there.0 there.1 there.2 refl in
-    omega (arith, ints, here, sum_of_least worth arcs ys (All-tail (Contains arcs) y ys known))
+    let here = least_below value y.person arcs y there.0 there.1 there.2 refl in
+    omega (arith, ints, here, sum_of_least value arcs ys (All-tail (Contains arcs) y ys known))
 
 pub sum_near_least : (eps : ℤ) (s : ℕ) (prices : List ℤ) (arcs xs : List Arc) → All (Contains arcs) xs → All (IsSlackRight eps s prices arcs) xs
-    → total (map (arc_value s prices) xs) ≤ℤ (total (map (least_worth (arc_value s prices) arcs) (map person_of xs)) +ℤ (pos (length xs) *ℤ eps))
+    → total (map (arc_value s prices) xs) ≤ℤ (total (map (least_value (arc_value s prices) arcs) (map person_of xs)) +ℤ (pos (length xs) *ℤ eps))
 sum_near_least eps s prices arcs [] known slack = omega (arith, ints, zero-*ℤ eps)
 sum_near_least eps s prices arcs (x ∷ xs) known slack =
     let there = All-head (Contains arcs) x xs known in
     let right = All-head (IsSlackRight eps s prices arcs) x xs slack in
-    let above : (arc_value s prices x -ℤ eps) ≤ℤ least_worth (arc_value s prices) arcs x.person =
+    let above : (arc_value s prices x -ℤ eps) ≤ℤ least_value (arc_value s prices) arcs x.person =
     least_above (arc_value s prices) x.person (arc_value s prices x -ℤ eps) arcs x there.0 there.1 there.2 refl (λ k d lt his. let le = right k d lt his in omega (arith, ints, le)) in
     omega (arith, ints, above, once_more (length xs) eps, sum_near_least eps s prices arcs xs (All-tail (Contains arcs) x xs known) (All-tail (IsSlackRight eps s prices arcs) x xs slack))
 
@@ -52,13 +52,13 @@ objects_below m n arcs (a ∷ xs) within known =
 
 module _ (p : Problem) (prices : List ℤ) (within : All (IsWithin p.persons p.objects) p.arcs) (len : length prices ≡ p.objects) where
   leasts : ℤ
-  leasts = total (map (least_worth (arc_value (scale_of p) prices) p.arcs) (range_with_len 0 p.persons))
+  leasts = total (map (least_value (arc_value (scale_of p) prices) p.arcs) (range_with_len 0 p.persons))
 
   pub objects_in : (choice : List Arc) → IsAssignment p choice → AllByRecursion (λ j. j < length prices) (map object_of choice)
   objects_in choice given = rw len (objects_below p.persons p.objects p.arcs choice within given.arcs)
 
-  persons_in : (choice : List Arc) → IsAssignment p choice → total (map (least_worth (arc_value (scale_of p) prices) p.arcs) (map person_of choice)) ≡ total (map (least_worth (arc_value (scale_of p) prices) p.arcs) (range_with_len 0 p.persons))
-  persons_in choice given = ap (λ (js : List ℕ). total (map (least_worth (arc_value (scale_of p) prices) p.arcs) js)) given.persons
+  persons_in : (choice : List Arc) → IsAssignment p choice → total (map (least_value (arc_value (scale_of p) prices) p.arcs) (map person_of choice)) ≡ total (map (least_value (arc_value (scale_of p) prices) p.arcs) (range_with_len 0 p.persons))
+  persons_in choice given = ap (λ (js : List ℕ). total (map (least_value (arc_value (scale_of p) prices) p.arcs) js)) given.persons
 
   -- weak duality
   pub dual_is_below : (choice : List Arc) → IsAssignment p choice → AreNotNegative prices → dual p prices ≤ℤ (pos (scale_of p) *ℤ total_cost choice)

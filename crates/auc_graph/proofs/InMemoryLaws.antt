@@ -12,7 +12,7 @@ use Rattle.auc_graph.specs.declared.limits.TheConstants.{MOST_ARCS, MOST_COST}
 use Rattle.auc_graph.specs.Problem.{IsWithin}
 use Rattle.auc_graph.specs.InMemory.{fault_at, first_fault}
 
-true_from : (b : Bool) → T b → b ≡ true
+pub true_from : (b : Bool) → T b → b ≡ true
 true_from true t = refl
 true_from false t = absurd t
 
@@ -27,7 +27,7 @@ by_parts : (a b : Option ListFault) → option_or a b ≡ None → (a ≡ None) 
 by_parts None b e = (refl, e)
 by_parts (Some x) b e = absurd cc
 
-from_no : (n m : ℕ) → nat_le n m ≡ false → m < n
+pub from_no : (n m : ℕ) → nat_le n m ≡ false → m < n
 from_no n m e = grind (arith, nat_tests)
 
 no_from : (n m : ℕ) → m < n → nat_le n m ≡ false

@@ -10,14 +10,14 @@ use Rattle.std.proofs.lemmas.List.FromFn.{get_or-map-range_with_len, length-map-
 use Rattle.std.proofs.lemmas.List.Elements.{All-head, All-tail, filter-append}
 use Rattle.auc_graph.specs.declared.arc.Arc.{Arc}
 use Rattle.auc_graph.specs.Assignment.{person_of}
-use Rattle.auc_graph.specs.Dual.{lowest, least_of, is_his, worths, least_worth}
+use Rattle.auc_graph.specs.Dual.{lowest, least_of, is_his, values, least_value}
 
 -- ---- the least of some numbers
 
-min_left : (x y : ℤ) → int_min x y ≤ℤ x
+pub min_left : (x y : ℤ) → int_min x y ≤ℤ x
 min_left x y = omega (arith, ints, clamps)
 
-min_right : (x y : ℤ) → int_min x y ≤ℤ y
+pub min_right : (x y : ℤ) → int_min x y ≤ℤ y
 min_right x y = omega (arith, ints, clamps)
 
 min_above : (m x y : ℤ) → m ≤ℤ x → m ≤ℤ y → m ≤ℤ int_min x y
@@ -30,50 +30,50 @@ pub lowest_first : (z : ℤ) (ys : List ℤ) → lowest z ys ≤ℤ z
 lowest_first z [] = omega (arith, ints)
 lowest_first z (y ∷ ys) = under _ _ _ (min_right y (lowest z ys)) (lowest_first z ys)
 
-module _ (worth : Arc → ℤ) (i : ℕ) where
-  lowest_below : (z : ℤ) (arcs : List Arc) (a : Arc) (k : ℕ) → k < length arcs → get_or arcs k a ≡ a → a.person ≡ i → lowest z (worths worth arcs i) ≤ℤ worth a
+module _ (value : Arc → ℤ) (i : ℕ) where
+  lowest_below : (z : ℤ) (arcs : List Arc) (a : Arc) (k : ℕ) → k < length arcs → get_or arcs k a ≡ a → a.person ≡ i → lowest z (values value arcs i) ≤ℤ value a
   lowest_below z [] a k lt e his = absurd (omega arith)
   lowest_below z (x ∷ xs) a zero lt e his =
       let t : (x.person == i) ≡ true = eq-eqb x.person i (ap person_of e ∙ his) in
-      rw t (subst (λ (v : ℤ). int_min (worth x) (lowest z (worths worth xs i)) ≤ℤ v) (ap worth e) (min_left (worth x) (lowest z (worths worth xs i))))
+      rw t (subst (λ (v : ℤ). int_min (value x) (lowest z (values value xs i)) ≤ℤ v) (ap value e) (min_left (value x) (lowest z (values value xs i))))
   lowest_below z (x ∷ xs) a (suc k) lt e his =
       let rest = lowest_below z xs a k (omega (arith, lt)) e his in
       elim (cases_Bool (x.person == i)) [
-        | inl t ↦ rw t (under _ _ _ (min_right (worth x) (lowest z (worths worth xs i))) rest)
+        | inl t ↦ rw t (under _ _ _ (min_right (value x) (lowest z (values value xs i))) rest)
         | inr f ↦ rw f rest
       ]
 
-  pub least_below : (arcs : List Arc) (a : Arc) (k : ℕ) → k < length arcs → get_or arcs k a ≡ a → a.person ≡ i → least_worth worth arcs i ≤ℤ worth a
+  pub least_below : (arcs : List Arc) (a : Arc) (k : ℕ) → k < length arcs → get_or arcs k a ≡ a → a.person ≡ i → least_value value arcs i ≤ℤ value a
   least_below [] a k lt e his = absurd (omega arith)
   least_below (x ∷ xs) a zero lt e his =
       let t : (x.person == i) ≡ true = eq-eqb x.person i (ap person_of e ∙ his) in
-      rw t (subst (λ (v : ℤ). lowest (worth x) (worths worth xs i) ≤ℤ v) (ap worth e) (lowest_first (worth x) (worths worth xs i)))
+      rw t (subst (λ (v : ℤ). lowest (value x) (values value xs i) ≤ℤ v) (ap value e) (lowest_first (value x) (values value xs i)))
   least_below (x ∷ xs) a (suc k) lt e his =
       elim (cases_Bool (x.person == i)) [
-        | inl t ↦ rw t (lowest_below (worth x) xs a k (omega (arith, lt)) e his)
+        | inl t ↦ rw t (lowest_below (value x) xs a k (omega (arith, lt)) e his)
         | inr f ↦ rw f (least_below xs a k (omega (arith, lt)) e his)
       ]
 
-  lowest_above : (m z : ℤ) (arcs : List Arc) → m ≤ℤ z → All (λ a. a.person ≡ i → m ≤ℤ worth a) arcs → m ≤ℤ lowest z (worths worth arcs i)
+  lowest_above : (m z : ℤ) (arcs : List Arc) → m ≤ℤ z → All (λ a. a.person ≡ i → m ≤ℤ value a) arcs → m ≤ℤ lowest z (values value arcs i)
   lowest_above m z [] h all = h
   lowest_above m z (x ∷ xs) h all =
-      let rest = lowest_above m z xs h (All-tail (λ (a : Arc). a.person ≡ i → m ≤ℤ worth a) x xs all) in
+      let rest = lowest_above m z xs h (All-tail (λ (a : Arc). a.person ≡ i → m ≤ℤ value a) x xs all) in
       elim (cases_Bool (x.person == i)) [
-        | inl t ↦ rw t (min_above m (worth x) (lowest z (worths worth xs i)) (All-head (λ (a : Arc). a.person ≡ i → m ≤ℤ worth a) x xs all (eqb-true x.person i t)) rest)
+        | inl t ↦ rw t (min_above m (value x) (lowest z (values value xs i)) (All-head (λ (a : Arc). a.person ≡ i → m ≤ℤ value a) x xs all (eqb-true x.person i t)) rest)
         | inr f ↦ rw f rest
       ]
 
   -- of a person who has an arc
-  pub least_above : (m : ℤ) (arcs : List Arc) (c : Arc) (k : ℕ) → k < length arcs → get_or arcs k c ≡ c → c.person ≡ i → All (λ a. a.person ≡ i → m ≤ℤ worth a) arcs → m ≤ℤ least_worth worth arcs i
+  pub least_above : (m : ℤ) (arcs : List Arc) (c : Arc) (k : ℕ) → k < length arcs → get_or arcs k c ≡ c → c.person ≡ i → All (λ a. a.person ≡ i → m ≤ℤ value a) arcs → m ≤ℤ least_value value arcs i
   least_above m [] c k lt e his all = absurd (omega arith)
   least_above m (x ∷ xs) c k lt e his all =
-      let others = All-tail (λ (a : Arc). a.person ≡ i → m ≤ℤ worth a) x xs all in
+      let others = All-tail (λ (a : Arc). a.person ≡ i → m ≤ℤ value a) x xs all in
       elim (cases_Bool (x.person == i)) [
-        | inl t ↦ rw t (lowest_above m (worth x) xs (All-head (λ (a : Arc). a.person ≡ i → m ≤ℤ worth a) x xs all (eqb-true x.person i t)) others)
+        | inl t ↦ rw t (lowest_above m (value x) xs (All-head (λ (a : Arc). a.person ≡ i → m ≤ℤ value a) x xs all (eqb-true x.person i t)) others)
         | inr f ↦ rw f (later k lt e f (λ n l h. least_above m xs c n l h his others))
       ]
     where
-      later : (k : ℕ) → k < length (x ∷ xs) → get_or (x ∷ xs) k c ≡ c → (x.person == i) ≡ false → ((n : ℕ) → n < length xs → get_or xs n c ≡ c → m ≤ℤ least_worth worth xs i) → m ≤ℤ least_worth worth xs i
+      later : (k : ℕ) → k < length (x ∷ xs) → get_or (x ∷ xs) k c ≡ c → (x.person == i) ≡ false → ((n : ℕ) → n < length xs → get_or xs n c ≡ c → m ≤ℤ least_value value xs i) → m ≤ℤ least_value value xs i
       later zero lt e f rest = let t : (x.person == i) ≡ true = eq-eqb x.person i (ap person_of e ∙ his) in absurd (let b = sym t ∙ f in cc)
       later (suc k) lt e f rest = rest k (omega (arith, lt)) e
 
@@ -101,85 +101,85 @@ pub lowest_is : (top : ℤ) (zs : List ℤ) → zs ≢ [] → least_of zs ≤ℤ
 lowest_is top [] some h = absurd (some refl)
 lowest_is top (z ∷ zs) some h = lowest_turns top z zs ∙ min_low top (lowest z zs) h
 
-map_one : (worth : Arc → ℤ) (b : Bool) (a : Arc) → map worth (cond b (a ∷ []) []) ≡ cond b (worth a ∷ []) []
-map_one worth true a = refl
-map_one worth false a = refl
+map_one : (value : Arc → ℤ) (b : Bool) (a : Arc) → map value (cond b (a ∷ []) []) ≡ cond b (value a ∷ []) []
+map_one value true a = refl
+map_one value false a = refl
 
-worths_push : (worth : Arc → ℤ) (arcs : List Arc) (a : Arc) (i : ℕ) → worths worth (arcs ++ a ∷ []) i ≡ worths worth arcs i ++ cond (a.person == i) (worth a ∷ []) []
-worths_push worth arcs a i =
-    ap (map worth) (filter-append (is_his i) arcs (a ∷ []))
-    ∙ map-append worth (filter (is_his i) arcs) (cond (is_his i a) (a ∷ []) [])
-    ∙ ap (λ (zs : List ℤ). worths worth arcs i ++ zs) (map_one worth (is_his i a) a)
+values_push : (value : Arc → ℤ) (arcs : List Arc) (a : Arc) (i : ℕ) → values value (arcs ++ a ∷ []) i ≡ values value arcs i ++ cond (a.person == i) (value a ∷ []) []
+values_push value arcs a i =
+    ap (map value) (filter-append (is_his i) arcs (a ∷ []))
+    ∙ map-append value (filter (is_his i) arcs) (cond (is_his i a) (a ∷ []) [])
+    ∙ ap (λ (zs : List ℤ). values value arcs i ++ zs) (map_one value (is_his i a) a)
 
 abbrev pub lowest_at : (Arc → ℤ) → ℤ → List Arc → ℕ → ℤ
-lowest_at worth top arcs i = lowest top (worths worth arcs i)
+lowest_at value top arcs i = lowest top (values value arcs i)
 
-his_more : (worth : Arc → ℤ) (top : ℤ) (arcs : List Arc) (a : Arc) → lowest_at worth top (arcs ++ a ∷ []) a.person ≡ int_min (lowest_at worth top arcs a.person) (worth a)
-his_more worth top arcs a =
-    ap (lowest top) (worths_push worth arcs a a.person ∙ ap (λ b. worths worth arcs a.person ++ cond b (worth a ∷ []) []) (eq-eqb a.person a.person refl))
-    ∙ lowest_push top (worths worth arcs a.person) (worth a) ∙ min_swap (worth a) (lowest_at worth top arcs a.person)
+his_more : (value : Arc → ℤ) (top : ℤ) (arcs : List Arc) (a : Arc) → lowest_at value top (arcs ++ a ∷ []) a.person ≡ int_min (lowest_at value top arcs a.person) (value a)
+his_more value top arcs a =
+    ap (lowest top) (values_push value arcs a a.person ∙ ap (λ b. values value arcs a.person ++ cond b (value a ∷ []) []) (eq-eqb a.person a.person refl))
+    ∙ lowest_push top (values value arcs a.person) (value a) ∙ min_swap (value a) (lowest_at value top arcs a.person)
 
-other_same : (worth : Arc → ℤ) (top : ℤ) (arcs : List Arc) (a : Arc) (i : ℕ) → a.person ≢ i → lowest_at worth top (arcs ++ a ∷ []) i ≡ lowest_at worth top arcs i
-other_same worth top arcs a i ne =
-    ap (lowest top) (worths_push worth arcs a i ∙ ap (λ b. worths worth arcs i ++ cond b (worth a ∷ []) []) (ne_eqb a.person i ne) ∙ append-nil (worths worth arcs i))
+other_same : (value : Arc → ℤ) (top : ℤ) (arcs : List Arc) (a : Arc) (i : ℕ) → a.person ≢ i → lowest_at value top (arcs ++ a ∷ []) i ≡ lowest_at value top arcs i
+other_same value top arcs a i ne =
+    ap (lowest top) (values_push value arcs a i ∙ ap (λ b. values value arcs i ++ cond b (value a ∷ []) []) (ne_eqb a.person i ne) ∙ append-nil (values value arcs i))
 
 -- a table of n numbers: for each person the least of `top` and the values of the person's arcs
-pub record AreLeast (n : ℕ) (worth : Arc → ℤ) (top : ℤ) (arcs : List Arc) (table : List ℤ) : Type 0 where
+pub record AreLeast (n : ℕ) (value : Arc → ℤ) (top : ℤ) (arcs : List Arc) (table : List ℤ) : Type 0 where
   pub len : length table ≡ n
-  pub each : (i : ℕ) → i < n → get_or table i (pos 0) ≡ lowest_at worth top arcs i
+  pub each : (i : ℕ) → i < n → get_or table i (pos 0) ≡ lowest_at value top arcs i
 
-pub least_none : (n : ℕ) (worth : Arc → ℤ) (top : ℤ) → AreLeast n worth top [] (replicate n top)
-least_none n worth top = record { len = length-replicate n top; each = λ i lt. get_or-replicate n i top (pos 0) lt }
+pub least_none : (n : ℕ) (value : Arc → ℤ) (top : ℤ) → AreLeast n value top [] (replicate n top)
+least_none n value top = record { len = length-replicate n top; each = λ i lt. get_or-replicate n i top (pos 0) lt }
 
-pub least_more : (n : ℕ) (worth : Arc → ℤ) (top : ℤ) (arcs : List Arc) (k : ℕ) (d : Arc) (table : List ℤ) (was now : ℤ) → AreLeast n worth top (take k arcs) table → k < length arcs → (get_or arcs k d).person < n
-    → was ≡ get_or table (get_or arcs k d).person was → now ≡ int_min was (worth (get_or arcs k d)) → AreLeast n worth top (take (k + 1) arcs) (set table (get_or arcs k d).person now)
-least_more n worth top arcs k d table was now h lt within read made = record {
+pub least_more : (n : ℕ) (value : Arc → ℤ) (top : ℤ) (arcs : List Arc) (k : ℕ) (d : Arc) (table : List ℤ) (was now : ℤ) → AreLeast n value top (take k arcs) table → k < length arcs → (get_or arcs k d).person < n
+    → was ≡ get_or table (get_or arcs k d).person was → now ≡ int_min was (value (get_or arcs k d)) → AreLeast n value top (take (k + 1) arcs) (set table (get_or arcs k d).person now)
+least_more n value top arcs k d table was now h lt within read made = record {
   len = length-set table (get_or arcs k d).person now ∙ h.len;
   each = λ i l. elim (cases_eq i (get_or arcs k d).person) [
     | inl e ↦ rw e here
-    | inr ne ↦ get_or-set_other table (get_or arcs k d).person i now (pos 0) ne ∙ h.each i l ∙ sym (ap (λ xs. lowest_at worth top xs i) (take_more arcs k d lt) ∙ other_same worth top (take k arcs) (get_or arcs k d) i (λ e. ne (sym e)))
+    | inr ne ↦ get_or-set_other table (get_or arcs k d).person i now (pos 0) ne ∙ h.each i l ∙ sym (ap (λ xs. lowest_at value top xs i) (take_more arcs k d lt) ∙ other_same value top (take k arcs) (get_or arcs k d) i (λ e. ne (sym e)))
   ];
 }
   where
     room : (get_or arcs k d).person < length table
     room = let len = h.len in omega (arith, within, len)
 
-    before : was ≡ lowest_at worth top (take k arcs) (get_or arcs k d).person
+    before : was ≡ lowest_at value top (take k arcs) (get_or arcs k d).person
     before = read ∙ get_or_default table (get_or arcs k d).person was (pos 0) room ∙ h.each (get_or arcs k d).person within
 
-    here : get_or (set table (get_or arcs k d).person now) (get_or arcs k d).person (pos 0) ≡ lowest_at worth top (take (k + 1) arcs) (get_or arcs k d).person
+    here : get_or (set table (get_or arcs k d).person now) (get_or arcs k d).person (pos 0) ≡ lowest_at value top (take (k + 1) arcs) (get_or arcs k d).person
     here =
         get_or-set_same table (get_or arcs k d).person now (pos 0) room
-        ∙ made ∙ ap (λ (z : ℤ). int_min z (worth (get_or arcs k d))) before
-        ∙ sym (ap (λ xs. lowest_at worth top xs (get_or arcs k d).person) (take_more arcs k d lt) ∙ his_more worth top (take k arcs) (get_or arcs k d))
+        ∙ made ∙ ap (λ (z : ℤ). int_min z (value (get_or arcs k d))) before
+        ∙ sym (ap (λ xs. lowest_at value top xs (get_or arcs k d).person) (take_more arcs k d lt) ∙ his_more value top (take k arcs) (get_or arcs k d))
 
 -- ---- of a person who has an arc
 
-some_his : (worth : Arc → ℤ) (i : ℕ) (arcs : List Arc) (a : Arc) (k : ℕ) → k < length arcs → get_or arcs k a ≡ a → a.person ≡ i → worths worth arcs i ≢ []
-some_his worth i [] a k lt e his none = absurd (omega arith)
-some_his worth i (x ∷ xs) a zero lt e his none =
+some_his : (value : Arc → ℤ) (i : ℕ) (arcs : List Arc) (a : Arc) (k : ℕ) → k < length arcs → get_or arcs k a ≡ a → a.person ≡ i → values value arcs i ≢ []
+some_his value i [] a k lt e his none = absurd (omega arith)
+some_his value i (x ∷ xs) a zero lt e his none =
     let t : (x.person == i) ≡ true = eq-eqb x.person i (ap (λ (b : Arc). b.person) e ∙ his) in
     absurd (let n = rw t at none in cc)
-some_his worth i (x ∷ xs) a (suc k) lt e his none =
+some_his value i (x ∷ xs) a (suc k) lt e his none =
     elim (cases_Bool (x.person == i)) [
       | inl t ↦ absurd (let n = rw t at none in cc)
-      | inr f ↦ some_his worth i xs a k (omega (arith, lt)) e his (rw f at none)
+      | inr f ↦ some_his value i xs a k (omega (arith, lt)) e his (rw f at none)
     ]
 
-least_is : (worth : Arc → ℤ) (top : ℤ) (arcs : List Arc) (a : Arc) → Contains arcs a → All (λ (b : Arc). worth b ≤ℤ top) arcs → lowest_at worth top arcs a.person ≡ least_worth worth arcs a.person
-least_is worth top arcs a there most =
-    let below = least_below worth a.person arcs a there.0 there.1 there.2 refl in
-    let le : worth a ≤ℤ top = subst (λ (b : Arc). worth b ≤ℤ top) there.2 (most there.0 a there.1) in
-    lowest_is top (worths worth arcs a.person) (some_his worth a.person arcs a there.0 there.1 there.2 refl) (under _ _ _ below le)
+least_is : (value : Arc → ℤ) (top : ℤ) (arcs : List Arc) (a : Arc) → Contains arcs a → All (λ (b : Arc). value b ≤ℤ top) arcs → lowest_at value top arcs a.person ≡ least_value value arcs a.person
+least_is value top arcs a there most =
+    let below = least_below value a.person arcs a there.0 there.1 there.2 refl in
+    let le : value a ≤ℤ top = subst (λ (b : Arc). value b ≤ℤ top) there.2 (most there.0 a there.1) in
+    lowest_is top (values value arcs a.person) (some_his value a.person arcs a there.0 there.1 there.2 refl) (under _ _ _ below le)
 
 -- the table of all arcs, where each person has one
-pub table_is : (worth : Arc → ℤ) (top : ℤ) (n : ℕ) (arcs : List Arc) (table : List ℤ) → ((i : ℕ) → i < n → (a : Arc) × Contains arcs a × (a.person ≡ i)) → All (λ (a : Arc). worth a ≤ℤ top) arcs → length table ≡ n
-    → ((i : ℕ) → i < n → get_or table i (pos 0) ≡ lowest_at worth top arcs i) → table ≡ map (least_worth worth arcs) (range_with_len 0 n)
-table_is worth top n arcs table some most len each = same_lists table (map (least_worth worth arcs) (range_with_len 0 n)) (len ∙ sym (length-map-range_with_len (least_worth worth arcs) 0 n)) at
+pub table_is : (value : Arc → ℤ) (top : ℤ) (n : ℕ) (arcs : List Arc) (table : List ℤ) → ((i : ℕ) → i < n → (a : Arc) × Contains arcs a × (a.person ≡ i)) → All (λ (a : Arc). value a ≤ℤ top) arcs → length table ≡ n
+    → ((i : ℕ) → i < n → get_or table i (pos 0) ≡ lowest_at value top arcs i) → table ≡ map (least_value value arcs) (range_with_len 0 n)
+table_is value top n arcs table some most len each = same_lists table (map (least_value value arcs) (range_with_len 0 n)) (len ∙ sym (length-map-range_with_len (least_value value arcs) 0 n)) at
   where
-    at : (i : ℕ) (d : ℤ) → i < length table → get_or table i d ≡ get_or (map (least_worth worth arcs) (range_with_len 0 n)) i d
+    at : (i : ℕ) (d : ℤ) → i < length table → get_or table i d ≡ get_or (map (least_value value arcs) (range_with_len 0 n)) i d
     at i d lt =
         let l : i < n = omega (arith, lt, len) in
         let a = some i l in
-        let least : lowest_at worth top arcs i ≡ least_worth worth arcs i = subst (λ (j : ℕ). lowest_at worth top arcs j ≡ least_worth worth arcs j) a.2 (least_is worth top arcs a.0 a.1 most) in
-        get_or_default table i d (pos 0) lt ∙ each i l ∙ least ∙ sym (get_or-map-range_with_len (least_worth worth arcs) 0 n i i d l (omega arith))
+        let least : lowest_at value top arcs i ≡ least_value value arcs i = subst (λ (j : ℕ). lowest_at value top arcs j ≡ least_value value arcs j) a.2 (least_is value top arcs a.0 a.1 most) in
+        get_or_default table i d (pos 0) lt ∙ each i l ∙ least ∙ sym (get_or-map-range_with_len (least_value value arcs) 0 n i i d l (omega arith))

@@ -6,6 +6,11 @@ pub mod LowerLaws
 pub mod LowerRange
 pub mod InMemoryLaws
 pub mod Scale
+pub mod SpreadLaws
+pub mod ValueBounds
+pub mod RowLaws
+pub mod LayoutLaws
+pub mod BoundLaws
 -- for this crate
 mod TokenLaws
 mod MagnitudeLaws
@@ -16,13 +21,9 @@ mod WrittenLaws
 mod AlikeLaws
 mod PieceLaws
 mod EndLaws
-mod RowLaws
 mod CountLaws
-mod LayoutLaws
 mod InOrderLaws
-mod SpreadLaws
 mod LeastLaws
-mod BoundLaws
 mod PriceSums
 mod WorkedTexts
 mod WorkedRows

@@ -10,18 +10,18 @@ use Rattle.auc_graph.specs.declared.limits.TheConstants.{MOST_PERSONS, MOST_COST
 use Rattle.auc_graph.specs.Problem.{Problem, IsWithin}
 use Rattle.auc_graph.specs.Assignment.{total, person_of, total_cost, IsAssignment}
 use Rattle.auc_graph.specs.Price.{IsPrice}
-use Rattle.auc_graph.specs.Dual.{scale_of, arc_value, least_worth, dual, IsLower, AreNotNegative, AreFewPriced}
+use Rattle.auc_graph.specs.Dual.{scale_of, arc_value, least_value, dual, IsLower, AreNotNegative, AreFewPriced}
 use Rattle.auc_graph.proofs.Scale.{once_more, scale-add, scale-cancel, scale-mono, scale-swap}
 use Rattle.auc_graph.proofs.PriceLaws.{not_negative, few_below}
 use Rattle.auc_graph.proofs.LeastLaws.{least_above}
 use Rattle.auc_graph.proofs.DualLaws.{as_many, dual_is_below}
 
-sums_above : (m : ℤ) (worth : Arc → ℤ) (arcs ys : List Arc) → All (λ a. m ≤ℤ worth a) arcs → All (Contains arcs) ys → (pos (length ys) *ℤ m) ≤ℤ total (map (least_worth worth arcs) (map person_of ys))
-sums_above m worth arcs [] all known = omega (arith, ints, zero-*ℤ m)
-sums_above m worth arcs (y ∷ ys) all known =
+sums_above : (m : ℤ) (value : Arc → ℤ) (arcs ys : List Arc) → All (λ a. m ≤ℤ value a) arcs → All (Contains arcs) ys → (pos (length ys) *ℤ m) ≤ℤ total (map (least_value value arcs) (map person_of ys))
+sums_above m value arcs [] all known = omega (arith, ints, zero-*ℤ m)
+sums_above m value arcs (y ∷ ys) all known =
     let there = All-head (Contains arcs) y ys known in
-    let here = least_above worth y.person m arcs y there.0 there.1 there.2 refl (λ k d lt his. all k d lt) in
-    omega (arith, ints, here, once_more (length ys) m, sums_above m worth arcs ys all (All-tail (Contains arcs) y ys known))
+    let here = least_above value y.person m arcs y there.0 there.1 there.2 refl (λ k d lt his. all k d lt) in
+    omega (arith, ints, here, once_more (length ys) m, sums_above m value arcs ys all (All-tail (Contains arcs) y ys known))
 
 costs_below : (m : ℤ) (arcs ys : List Arc) → All (λ (a : Arc). a.cost ≤ℤ m) arcs → All (Contains arcs) ys → total_cost ys ≤ℤ (pos (length ys) *ℤ m)
 costs_below m arcs [] all known = omega (arith, ints, zero-*ℤ m)
@@ -42,15 +42,15 @@ module _ (p : Problem) (prices : List ℤ) (choice : List Arc) (lower : ℤ) (wi
       omega (arith, ints, least, costs, many MOST_COST)
 
   -- at prices that aren't negative no arc's value is below its scaled cost
-  worth_above : All (λ (a : Arc). (pos (scale_of p) *ℤ neg_ℤ MOST_COST) ≤ℤ arc_value (scale_of p) prices a) p.arcs
-  worth_above k d lt =
+  value_above : All (λ (a : Arc). (pos (scale_of p) *ℤ neg_ℤ MOST_COST) ≤ℤ arc_value (scale_of p) prices a) p.arcs
+  value_above k d lt =
       let arc = get_or p.arcs k d in
       omega (arith, ints, scale-mono (scale_of p) (neg_ℤ MOST_COST) arc.cost (within k d lt).low, above arc.object)
 
   pub lower_low : (top : ℤ) → total prices ≤ℤ (pos (scale_of p) *ℤ top) → ((pos p.persons *ℤ neg_ℤ MOST_COST) -ℤ top) ≤ℤ lower
   lower_low top few =
-      let sum = sums_above (pos (scale_of p) *ℤ neg_ℤ MOST_COST) (arc_value (scale_of p) prices) p.arcs choice worth_above given.arcs in
-      let persons = ap (λ (js : List ℕ). total (map (least_worth (arc_value (scale_of p) prices) p.arcs) js)) given.persons in
+      let sum = sums_above (pos (scale_of p) *ℤ neg_ℤ MOST_COST) (arc_value (scale_of p) prices) p.arcs choice value_above given.arcs in
+      let persons = ap (λ (js : List ℕ). total (map (least_value (arc_value (scale_of p) prices) p.arcs) js)) given.persons in
       let least : ℤ = pos p.persons *ℤ neg_ℤ MOST_COST in
       let e : (least -ℤ top) +ℤ top ≡ least = omega (arith, ints) in
       let parts = scale-add (scale_of p) (least -ℤ top) top in

@@ -26,7 +26,7 @@ prices_below (z ∷ zs) all = omega (arith, ints, (All-head IsPrice z zs all).hi
 
 -- ---- no more than these objects have a price
 
-zero_is_price : IsPrice (pos 0)
+pub zero_is_price : IsPrice (pos 0)
 zero_is_price = record { low = omega (arith, ints); high = omega (arith, ints) }
 
 one_zeroed : (prices : List ℤ) (j : ℕ) → All IsPrice prices → All IsPrice (set prices j (pos 0)) × (total prices ≤ℤ (total (set prices j (pos 0)) +ℤ pos (2 ^ 61)))

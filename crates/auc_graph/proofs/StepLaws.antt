@@ -14,6 +14,7 @@ use Rattle.auc_graph.specs.declared.stage.Stage.TheVariants.{AtPerson, AtObject,
 use Rattle.auc_graph.specs.declared.limits.TheConstants.{MOST_COST}
 use Rattle.auc_graph.specs.Problem.{IsWithin}
 use Rattle.auc_graph.specs.Reading.{◌>>=◌, within, is_between, index, room, State, step_at, step, finish_at, finish, reading_on}
+use Rattle.auc_graph.proofs.InMemoryLaws.{true_from}
 
 -- ---- one number more
 
@@ -42,10 +43,6 @@ steps_off limit stage arcs x e xs is = at_number limit stage arcs x xs ∙ ap (�
 
 has_room : (limit before : ℕ) → before < limit → room limit before ≡ Ok before
 has_room limit before lt = grind (arith, nat_tests)
-
-true_from : (b : Bool) → T b → b ≡ true
-true_from true t = refl
-true_from false t = absurd t
 
 within_is : (least most z : ℤ) (token : ℕ) (range : ReadError) → least ≤ℤ z → z ≤ℤ most → within least most token range (Value z) ≡ Ok z
 within_is least most z token range low high = let t : is_between least most z ≡ true = and_from (int_le least z) (int_le z most) (true_from (int_le least z) low.le) (true_from (int_le z most) high.le) in rw t refl

@@ -41,16 +41,16 @@ abbrev pub is_his : ℕ → Arc → Bool
 is_his person a = a.person == person
 
 -- the values of a person's arcs, by this measure
-abbrev pub worths : (Arc → ℤ) → List Arc → ℕ → List ℤ
-worths worth arcs person = map worth (filter (is_his person) arcs)
+abbrev pub values : (Arc → ℤ) → List Arc → ℕ → List ℤ
+values value arcs person = map value (filter (is_his person) arcs)
 
 -- the least value of a person's arcs, by this measure
-abbrev pub least_worth : (Arc → ℤ) → List Arc → ℕ → ℤ
-least_worth worth arcs person = least_of (worths worth arcs person)
+abbrev pub least_value : (Arc → ℤ) → List Arc → ℕ → ℤ
+least_value value arcs person = least_of (values value arcs person)
 
 -- the sum over the persons of the least value of their arcs, minus the sum of all prices
 abbrev pub dual : Problem → List ℤ → ℤ
-dual p prices = total (map (least_worth (arc_value (scale_of p) prices) p.arcs) (range_with_len 0 p.persons)) -ℤ total prices
+dual p prices = total (map (least_value (arc_value (scale_of p) prices) p.arcs) (range_with_len 0 p.persons)) -ℤ total prices
 
 -- the least number that is, scaled, at least d
 pub record IsLower (scale : ℕ) (d lower : ℤ) : Type 0 where

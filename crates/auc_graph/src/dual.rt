@@ -5,7 +5,7 @@ ghost use Rattle.auc_graph.specs.Problem.{IsWithin};
 ghost use Rattle.auc_graph.specs.declared.limits.TheConstants.{MOST_PERSONS, MOST_COST};
 ghost use Rattle.auc_graph.specs.Assignment.{total};
 ghost use Rattle.auc_graph.specs.Price.{IsPrice};
-ghost use Rattle.auc_graph.specs.Dual.{EachHasArc, IsLower, arc_value, dual, is_lower, lowest, worths};
+ghost use Rattle.auc_graph.specs.Dual.{EachHasArc, IsLower, arc_value, dual, is_lower, lowest, values};
 
 use crate::arc::{Arc, ArcList};
 use std::alloc::{AllocError, Global};
@@ -34,7 +34,7 @@ fn least_values(
     requires prices { All IsPrice prices.now }
     ensures len { IfOk result (λ v. length v.items ≡ persons) }
     ensures least { IfOk result
-        (λ v. (i : ℕ) → i < persons → slice_index_or v.items i (pos 0) ≡ lowest (pos (2 ^ 63 - 1)) (worths (arc_value
+        (λ v. (i : ℕ) → i < persons → slice_index_or v.items i (pos 0) ≡ lowest (pos (2 ^ 63 - 1)) (values (arc_value
         (persons + 1) prices.now) arcs.now i)) }
 {
     let scale = persons + 1;

@@ -7,6 +7,7 @@ use Rattle.auc_graph.specs.declared.rows.RowArc.{RowArc}
 use Rattle.auc_graph.specs.Table.{Table, row_of}
 use Rattle.auc_hall.specs.declared.search.Reached.{Reached}
 use Rattle.auc_hall.specs.Search.{HasArc, Grows}
+use Rattle.auc_hall.proofs.ProblemLaws.{no_arc}
 
 abbrev pub blank : Reached
 blank = record { person = 0; parent = 0; arc = record { object = 0; cost = pos 0; arc = 0 } }
@@ -46,9 +47,6 @@ was_in (x ∷ xs) ys (suc m) e lt h = was_in xs ys m e (omega arith) h
 
 pub was_there : (old_queue queue : List Reached) (m : ℕ) (e : Reached) → Grows old_queue queue → m < length old_queue → slice_get queue m ≡ Some e → slice_get old_queue m ≡ Some e
 was_there old_queue queue m e g lt h = was_in old_queue g.0 m e lt (ap (λ (q : List Reached). slice_get q m) (sym g.1) ∙ h)
-
-abbrev pub no_arc : RowArc
-no_arc = record { object = 0; cost = pos 0; arc = 0 }
 
 first_only_at : (y : Reached) (m : ℕ) (e : Reached) → slice_get (y ∷ []) m ≡ Some e → (m ≡ 0) × (e.person ≡ y.person)
 first_only_at y zero e h = (refl, ap (λ (r : Reached). r.person) (sym (same_Some y e h)))

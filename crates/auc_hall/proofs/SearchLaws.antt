@@ -12,8 +12,9 @@ use Rattle.auc_hall.specs.Partial.{pick}
 use Rattle.auc_hall.specs.Matched.{holder_of, IsMatched}
 use Rattle.auc_hall.specs.Search.{WasSeen, Reaches, HasArc, AreSeen, AreWalked, IsSearch, IsFreeArc, LeadsOut, Grows}
 use Rattle.auc_hall.proofs.Options.{is_within, other_place, same_read}
-use Rattle.auc_hall.proofs.QueueLaws.{blank, entry, get_kept, get_pushed, get_cases, was_there, no_arc, first_only, still}
+use Rattle.auc_hall.proofs.QueueLaws.{blank, entry, get_kept, get_pushed, get_cases, was_there, first_only, still}
 use Rattle.auc_hall.proofs.FlagLaws.{count_set, count_none, count_most, seen_kept}
+use Rattle.auc_hall.proofs.ProblemLaws.{no_arc}
 
 has_kept : (t : Table) (queue more : List Reached) (m : ℕ) (a : RowArc) → HasArc t queue m a → HasArc t (queue ++ more) m a
 has_kept t queue more m a h = record { by = h.by; there = get_kept queue more m h.by h.there; own = h.own }

@@ -40,13 +40,13 @@ fn complete_parts(
     choice: &mut [Option<RowArc>],
     holder: &mut [Option<u32>],
     seen: &mut [bool],
-    looked: &mut [usize],
+    scanned: &mut [usize],
 ) -> Result<Matching, AllocError>
     requires matched { IsMatched rows.now choice.old holder.old }
     requires seen { length seen.old ≡ rows.now.objects }
     requires none { (j : ℕ) → slice_index_or seen.old j false ≡ false }
     requires few { length seen.old < 2 ^ 32 }
-    requires looked { length looked.old ≡ length rows.now.rows }
+    requires scanned { length scanned.old ≡ length rows.now.rows }
     ensures matching { IfOk result (IsMatching rows.now) }
     ensures grown { IfOk result (HasGrown rows.now choice.old) }
 {
@@ -55,7 +55,7 @@ fn complete_parts(
         if choice[person as usize].is_some() {
             continue;
         }
-        match search(rows, choice, holder, seen, looked, &mut queue, person)? {
+        match search(rows, choice, holder, seen, scanned, &mut queue, person)? {
             None => {
                 return hall_set(alloc, rows, seen, queue.as_slice());
             }
@@ -92,13 +92,13 @@ pub fn complete(alloc: Global, rows: &Rows, partial: Partial) -> Result<Matching
 {
     let (mut choice, mut holder) = partial.into_parts();
     let mut seen = vec![in alloc; false; rows.objects() as usize]?;
-    let mut looked = vec![in alloc; 0; rows.persons() as usize]?;
+    let mut scanned = vec![in alloc; 0; rows.persons() as usize]?;
     complete_parts(
         alloc,
         rows,
         choice.as_mut_slice(),
         holder.as_mut_slice(),
         seen.as_mut_slice(),
-        looked.as_mut_slice(),
+        scanned.as_mut_slice(),
     )
 }

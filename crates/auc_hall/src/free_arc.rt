@@ -6,7 +6,7 @@ ghost use Rattle.auc_hall.specs.Search.{IsFreeArc};
 
 use auc_graph::{RowArc, Rows};
 
-/// The person's first arc to an object that nobody holds. `looked` is the number of arcs of each person that were
+/// The person's first arc to an object that nobody holds. `scanned` is the number of arcs of each person that were
 /// scanned before.
 ///
 /// In a completion an object that is held stays held, so a scan goes on where the last one ended. All of them together
@@ -14,25 +14,25 @@ use auc_graph::{RowArc, Rows};
 pub(crate) fn free_arc(
     rows: &Rows,
     holder: &[Option<u32>],
-    looked: &mut [usize],
+    scanned: &mut [usize],
     person: u32,
 ) -> Option<RowArc>
     requires person { person < length rows.now.rows }
-    requires looked { length looked.old ≡ length rows.now.rows }
+    requires scanned { length scanned.old ≡ length rows.now.rows }
     requires objects { length holder.now ≡ rows.now.objects }
-    ensures looked { length looked.new ≡ length looked.old }
+    ensures scanned { length scanned.new ≡ length scanned.old }
     ensures free { IfSome result (λ a. IsFreeArc rows.now holder.now person a) }
 {
     let row = rows.row(person);
-    let mut at = looked[person as usize];
+    let mut at = scanned[person as usize];
     while at < row.len() {
         let arc = row[at];
         if holder[arc.object as usize].is_none() {
-            looked[person as usize] = at;
+            scanned[person as usize] = at;
             return Some(arc);
         }
         at += 1;
     }
-    looked[person as usize] = at;
+    scanned[person as usize] = at;
     None
 }

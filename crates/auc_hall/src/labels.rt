@@ -26,7 +26,7 @@ use auc_graph::{RowArc, Rows};
 
 /// The number of scans of each arc, in the mean, after which the search gives up; the scans for persons who find a free
 /// object at once don't count.
-const MOST_LOOKS: usize = 16;
+const MOST_SCANS: usize = 16;
 
 /// More than any label.
 const NO_LABEL: u32 = u32::MAX;
@@ -181,7 +181,7 @@ fn place(
     holders: &mut [Option<u32>],
     places: &mut [u32],
     start: u32,
-    looks: &mut usize,
+    scans: &mut usize,
 ) -> bool
     requires labels { length labels.old ≡ rows.now.objects }
     requires counts { length counts.old ≡ length rows.now.rows + 1 }
@@ -189,8 +189,8 @@ fn place(
     requires places { length places.old ≡ length rows.now.rows }
 {
     let mut person = start;
-    while *looks > 0 && person < rows.persons() {
-        *looks = looks.saturating_sub(rows.row(person).len().max(1));
+    while *scans > 0 && person < rows.persons() {
+        *scans = scans.saturating_sub(rows.row(person).len().max(1));
         match take(rows, labels, counts, holders, places, person) {
             Taken::Free => return true,
             Taken::From(displaced) => person = displaced,
@@ -217,15 +217,15 @@ pub(crate) fn search_by_labels(
     let placed = place_freely(rows, labels, holders, places);
     counts[0] = rows.objects().saturating_sub(placed);
     counts[1] = placed;
-    let mut looks = 0usize;
+    let mut scans = 0usize;
     for person in 0..rows.persons() {
         // Each person adds scans of the person's own arcs to the limit, so that the arcs need not be counted before.
-        let brought = rows.row(person).len().saturating_mul(MOST_LOOKS);
-        looks = looks.saturating_add(brought);
+        let brought = rows.row(person).len().saturating_mul(MOST_SCANS);
+        scans = scans.saturating_add(brought);
         if places[person as usize] != NO_PLACE {
             continue;
         }
-        if !place(rows, labels, counts, holders, places, person, &mut looks) {
+        if !place(rows, labels, counts, holders, places, person, &mut scans) {
             return false;
         }
     }

@@ -36,15 +36,15 @@ fn walk(
     _choice: &[Option<RowArc>],
     holder: &[Option<u32>],
     seen: &mut [bool],
-    looked: &mut [usize],
+    scanned: &mut [usize],
     queue: &mut Vec<Reached>,
     at: usize,
 ) -> Result<Option<PathEnd>, AllocError>
     requires matched { IsMatched rows.now _choice.now holder.now }
     requires search { IsSearch rows.now _choice.now holder.now queue.old.items seen.old }
     requires at { at < length queue.old.items }
-    requires looked { length looked.old ≡ length rows.now.rows }
-    ensures looked { length looked.new ≡ length looked.old }
+    requires scanned { length scanned.old ≡ length rows.now.rows }
+    ensures scanned { length scanned.new ≡ length scanned.old }
     ensures search { OnOk result (IsSearch rows.now _choice.now holder.now queue.new.items seen.new) }
     ensures grows { OnOk result (Grows queue.old.items queue.new.items) }
     ensures kept { (j : ℕ) → WasSeen seen.old j → WasSeen seen.new j }
@@ -68,7 +68,7 @@ fn walk(
                     parent: at,
                     person: partner,
                 })?;
-                if let Some(out) = free_arc(rows, holder, looked, partner) {
+                if let Some(out) = free_arc(rows, holder, scanned, partner) {
                     let last = queue.len() - 1;
                     return Ok(Some(PathEnd { arc: out, at: last }));
                 }
@@ -93,13 +93,13 @@ fn forget(seen: &mut [bool], queue: &[Reached])
 }
 
 /// Searches for a free object from this person on, the closest first. `seen` and `queue` are those of the search
-/// before, and `looked` is the number of arcs of each person that were scanned for a free object.
+/// before, and `scanned` is the number of arcs of each person that were scanned for a free object.
 pub(crate) fn search(
     rows: &Rows,
     choice: &[Option<RowArc>],
     holder: &[Option<u32>],
     seen: &mut [bool],
-    looked: &mut [usize],
+    scanned: &mut [usize],
     queue: &mut Vec<Reached>,
     start: u32,
 ) -> Result<Option<PathEnd>, AllocError>
@@ -108,8 +108,8 @@ pub(crate) fn search(
     requires free { pick choice.now start ≡ None }
     requires seen { length seen.old ≡ rows.now.objects }
     requires marks { (j : ℕ) → WasSeen seen.old j → Reaches queue.old.items j }
-    requires looked { length looked.old ≡ length rows.now.rows }
-    ensures looked { length looked.new ≡ length looked.old }
+    requires scanned { length scanned.old ≡ length rows.now.rows }
+    ensures scanned { length scanned.new ≡ length scanned.old }
     ensures search { OnOk result (IsSearch rows.now choice.now holder.now queue.new.items seen.new) }
     ensures first { OnOk result ((e : Reached) → slice_get queue.new.items 0 ≡ Some e → e.person ≡ start) }
     ensures found { IfOk result (λ r. IfSome r (λ f. LeadsOut rows.now holder.now queue.new.items f.at f.arc)) }
@@ -126,12 +126,12 @@ pub(crate) fn search(
         parent: 0,
         person: start,
     })?;
-    if let Some(arc) = free_arc(rows, holder, looked, start) {
+    if let Some(arc) = free_arc(rows, holder, scanned, start) {
         return Ok(Some(PathEnd { arc, at: 0 }));
     }
     let mut at = 0;
     while at < queue.len() {
-        if let Some(found) = walk(rows, choice, holder, seen, looked, queue, at)? {
+        if let Some(found) = walk(rows, choice, holder, seen, scanned, queue, at)? {
             return Ok(Some(found));
         }
         at += 1;

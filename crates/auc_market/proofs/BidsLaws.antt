@@ -60,8 +60,8 @@ made_raises r eps s t n sound some many (goes k u v run gone) =
     let before = made_raises r eps s u k sound some many run in
     let e = before.0 in
     let b = before.1 in
-    let l = gone.way.stands.prices_are in
-    let up = total_rises u.prices v.prices (omega (arith, l, e)) gone.way.higher in
+    let l = gone.augmented.stands.prices_are in
+    let up = total_rises u.prices v.prices (omega (arith, l, e)) gone.augmented.higher in
     (l, omega (arith, ints, b, up))
 
 -- so a phase leaves no lower sum

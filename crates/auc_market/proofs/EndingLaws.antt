@@ -46,17 +46,17 @@ sold_left r eps (Ending.Stopped reason) prices holders owns stands is last = (ep
 
 -- only a limit has stopped the phase, or its watch
 pub watched_stopped : (before after : Bool) (r : FlatTable) (bids : ℕ) (s : State) (ending : Ending) (prices : List ℤ) (owns : List ShortArc) → IsToldOr before after ending (IsEnding r bids s ending prices owns) → IsToldOr before after ending (IsStopped r bids s ending prices)
-watched_stopped before after r bids s ending prices owns (inl told) = inl told
+watched_stopped before after r bids s ending prices owns (inl listed_best) = inl listed_best
 watched_stopped before after r bids s ending prices owns (inr is) = inr (is.0, ended_stopped r bids s ending prices owns is.1)
 
 -- the same of a run that began earlier, when the watch hadn't yet said no
 pub stopped_before : (before between after : Bool) (r : FlatTable) (bids : ℕ) (s t : State) (ending : Ending) (prices : List ℤ) → between ≡ before → ArePhases r bids s t → total s.prices ≤ℤ total t.prices → IsToldOr between after ending (IsStopped r bids t ending prices) → IsToldOr before after ending (IsStopped r bids s ending prices)
-stopped_before before between after r bids s t ending prices same run le (inl told) = inl told
+stopped_before before between after r bids s t ending prices same run le (inl listed_best) = inl listed_best
 stopped_before before between after r bids s t ending prices same run le (inr is) = inr (is.0 ∙ same, stopped_earlier r bids s t ending prices run le is.1)
 
 -- if a phase has sold all, its watch hasn't said no
 pub sold_going : (before after : Bool) (Holds : Type 0) → IsToldOr before after Ending.Sold Holds → after ≡ before
-sold_going before after Holds (inl told) = absurd (not_stopped told.1)
+sold_going before after Holds (inl listed_best) = absurd (not_stopped listed_best.1)
   where
     not_stopped : Ending.Sold ≡ Ending.Stopped Reason.Bids → ⊥
     not_stopped e = absurd cc

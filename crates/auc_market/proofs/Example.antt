@@ -46,10 +46,10 @@ none zero d lt = inl refl
 none (suc k) d lt = absurd (omega (arith, lt))
 
 offered : IsOffer (pos 3) (pos 3) (pos 2) (pos 0 ∷ pos 0 ∷ []) (near ∷ far ∷ []) near (pos 11)
-offered = record { listed = Contains-get_or (near ∷ far ∷ []) 0 no_arc (omega arith); lead = pos 9; low = omega (arith, ints); others = others; only = λ all. omega (arith, ints); is = refl }
+offered = record { listed = Contains-get_or (near ∷ far ∷ []) 0 no_arc (omega arith); margin = pos 9; low = omega (arith, ints); others = others; only = λ all. omega (arith, ints); is = refl }
 
 offered_alone : IsOffer (pos 3) (pos 3) (pos 2) (pos 11 ∷ pos 0 ∷ []) (alone ∷ []) alone (pos 22)
-offered_alone = record { listed = Contains-get_or (alone ∷ []) 0 no_arc (omega arith); lead = pos 9; low = omega (arith, ints); others = none; only = λ all. omega (arith, ints); is = refl }
+offered_alone = record { listed = Contains-get_or (alone ∷ []) 0 no_arc (omega arith); margin = pos 9; low = omega (arith, ints); others = none; only = λ all. omega (arith, ints); is = refl }
 
 one : IsBidMade rows (pos 2) first between
 one = record { person = 0; known = omega arith; free = refl; arc = near; amount = pos 11; offer = offered; prices = refl; holders = refl; owns = refl }

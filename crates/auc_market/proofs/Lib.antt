@@ -6,7 +6,7 @@ pub mod PhasesLaws
 pub mod EndingLaws
 pub mod Moving
 pub mod Opening
-pub mod Ways
+pub mod Augmentations
 -- for this crate
 mod ScanLaws
 mod Shortlists

@@ -13,7 +13,7 @@ use Rattle.auc_rows.specs.declared.arc.ShortArc.{ShortArc}
 use Rattle.auc_rows.specs.Rows.{FlatTable, IsFlatTable, IsShort, flat_row_of, scale_in}
 use Rattle.auc_market.specs.declared.holdings.TheConstants.{NOBODY}
 use Rattle.auc_market.specs.Bid.{IsRaise}
-use Rattle.auc_market.specs.Way.{IsWay}
+use Rattle.auc_market.specs.Augmented.{IsAugmented}
 use Rattle.auc_market.specs.Market.{AreSpare, HaveAllBut, IsAwarded, IsSlack, Stands, holder_at, no_own, own_at}
 use Rattle.auc_market.proofs.BidLaws.{risen}
 
@@ -248,10 +248,10 @@ stands_by r eps prices these holders they owns those e f g h =
     (subst (λ (os : List ShortArc). Stands r eps prices holders os) (sym g) h))
 
 -- a person takes an object at a price that is no lower, and at which its arc satisfies epsilon-complementary slackness
-pub way_taken : (r : FlatTable) (eps : ℤ) (person : ℕ) (prices new : List ℤ) (holders sold : List ℕ) (owns left : List ShortArc) (d : ℕ) (s : ShortArc) (amount : ℤ) → IsFlatTable r → Stands r eps prices holders owns → person < length r.rows → (own_at owns person).object ≡ NOBODY
+pub augmented_taken : (r : FlatTable) (eps : ℤ) (person : ℕ) (prices new : List ℤ) (holders sold : List ℕ) (owns left : List ShortArc) (d : ℕ) (s : ShortArc) (amount : ℤ) → IsFlatTable r → Stands r eps prices holders owns → person < length r.rows → (own_at owns person).object ≡ NOBODY
     → price_at prices s.object ≤ℤ amount → amount ≤ℤ pos (2 ^ 61) → IsSlack r eps (set prices s.object amount) person s → new ≡ set prices s.object amount → sold ≡ set holders s.object person → left ≡ set (set owns person s) (holder_at holders s.object) no_own → d ≡ holder_at holders s.object
-    → IsWay r eps person prices new sold owns left d
-way_taken r eps person prices new holders sold owns left d s amount sound stands known none up high fits e f g h =
+    → IsAugmented r eps person prices new sold owns left d
+augmented_taken r eps person prices new holders sold owns left d s amount sound stands known none up high fits e f g h =
     record {
       stands = stands_by r eps (set prices s.object amount) new (set holders s.object person) sold (set (set owns person s) (holder_at holders s.object) no_own) left e f g (stands_after r eps prices holders owns person s amount sound stands known none up fits high);
       none = subst (λ (os : List ShortArc). (own_at os d).object ≡ NOBODY) (sym g) (subst (λ (m : ℕ). (own_at (set (set owns person s) (holder_at holders s.object) no_own) m).object ≡ NOBODY) (sym h) (gone r eps prices holders owns person s amount sound stands known none up fits));
@@ -268,12 +268,12 @@ awarded r eps person prices new holders sold owns left d s amount sound is_eps s
     let e0 = is_eps.low in
     let up : price_at prices s.object ≤ℤ amount = omega (arith, ints, m, e0) in
     let fits : IsSlack r eps (set prices s.object amount) person s = record { listed = raise.listed; least = raise.slack } in
-    let way = way_taken r eps person prices new holders sold owns left d s amount sound stands known none up high fits e f g h in
+    let augmented = augmented_taken r eps person prices new holders sold owns left d s amount sound stands known none up high fits e f g h in
     record {
-      stands = way.stands;
+      stands = augmented.stands;
       more = rw e (let t = total_with r eps prices holders owns person s amount sound stands known none up fits in omega (arith, ints, t, m, e0));
-      none = way.none;
-      but = way.but;
-      below = way.below;
-      higher = way.higher;
+      none = augmented.none;
+      but = augmented.but;
+      below = augmented.below;
+      higher = augmented.higher;
     }

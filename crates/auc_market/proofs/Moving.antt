@@ -12,10 +12,10 @@ use Rattle.auc_market.specs.Eps.{IsEpsOf}
 use Rattle.auc_market.specs.Market.{IsAbove}
 use Rattle.auc_market.specs.Phases.ArePhases.{begins}
 use Rattle.auc_market.specs.Position.{IsBid, IsMove, IsRefinement, IsSlice, IsTried, Law, Position, Spends, state_at}
-use Rattle.auc_market.specs.Way.{IsWay}
+use Rattle.auc_market.specs.Augmented.{IsAugmented}
 use Rattle.auc_market.proofs.BidsLaws.{made_all, made_more, made_none, made_on, made_raises, made_risen, made_slice, made_within}
-use Rattle.auc_market.proofs.Bounds.{scaled_abs}
 use Rattle.auc_market.proofs.PhasesLaws.{counted_within, within_slice}
+use Rattle.auc_graph.proofs.ValueBounds.{scaled_abs}
 
 -- a bid at this eps fits
 pub eps_fits : (r : FlatTable) (eps : ℤ) → IsFlatTable r → IsEpsOf r eps → IsEps eps
@@ -43,11 +43,11 @@ spends_none p left = record { table = refl; eps = refl; spent = made_none p.tabl
 pub spends_more : (a b c d : Position) (before left after i j k : ℕ) → Spends before left a b → IsBid i b c j → IsMove j c d k → left ≡ after + 1 → Spends before after a d
 spends_more a b c d before left after i j k s bid move one =
     let made : IsBidMade a.table a.eps (state_at b) (state_at c) = rw (s.table, s.eps) at bid.made in
-    let way : IsWay a.table a.eps j c.prices d.prices d.holders c.owns d.owns k = rw (bid.table ∙ s.table, bid.eps ∙ s.eps) at move.way in
+    let augmented : IsAugmented a.table a.eps j c.prices d.prices d.holders c.owns d.owns k = rw (bid.table ∙ s.table, bid.eps ∙ s.eps) at move.augmented in
     record {
       table = move.table ∙ (bid.table ∙ s.table);
       eps = move.eps ∙ (bid.eps ∙ s.eps);
-      spent = made_more a.table a.eps before left after (state_at a) (state_at b) (state_at c) (state_at d) s.spent made (record { person = j; free = k; way = way }) one;
+      spent = made_more a.table a.eps before left after (state_at a) (state_at b) (state_at c) (state_at d) s.spent made (record { person = j; free = k; augmented = augmented }) one;
     }
 
 pub spends_on : (a b c : Position) (before mid after : ℕ) → Spends before mid a b → Spends mid after b c → Spends before after a c

@@ -33,12 +33,12 @@ module _ (val : ShortArc → ℤ) (row : List ShortArc) (f : Found) (h : IsFound
         | inr ne ↦ inr (subst (λ (a : ShortArc). f.second ≤ℤ val a) (get_or_default row k no_arc d lt) (h.others k lt ne))
       ]
 
-  second_worth : IsWorth val row (length row) f.second → IsSecond val row f.second
-  second_worth w = record { range = w.range; arc = get_or row w.place no_arc; listed = Contains-get_or row w.place no_arc w.known; below = w.below }
+  second_value : IsWorth val row (length row) f.second → IsSecond val row f.second
+  second_value w = record { range = w.range; arc = get_or row w.place no_arc; listed = Contains-get_or row w.place no_arc w.known; below = w.below }
 
   second_by : ((f.second ≡ endless) × (length row ≡ 1)) ⊎ IsWorth val row (length row) f.second → ((f.second ≡ endless) × All (λ a. a ≡ get_or row f.place no_arc) row) ⊎ IsSecond val row f.second
   second_by (inl e) = inl (e.0, λ k d lt. same_arc k d lt (let one = e.1 in let p = h.known in omega (arith, lt, one, p)))
-  second_by (inr w) = inr (second_worth w)
+  second_by (inr w) = inr (second_value w)
 
   pub best_found : IsBest val row found_best
   best_found = record {
@@ -56,27 +56,27 @@ module _ (val : ShortArc → ℤ) (row : List ShortArc) (f : Found) (h : IsFound
     where
       by : ((f.second ≡ endless) × (length row ≡ 1)) ⊎ IsWorth val row (length row) f.second → IsSecond val row f.second
       by (inl e) = absurd (let one = e.1 in omega (arith, one, two))
-      by (inr w) = second_worth w
+      by (inr w) = second_value w
 
 -- by a list that says this of the row
 module _ (val : ShortArc → ℤ) (row : List ShortArc) (l : Shortlist) (b : Best) (its : IsBest val l.arcs.items b) (value : IsSecond val l.arcs.items b.second) (below : b.second ≤ℤ l.bound) where
-  told_other : (a : ShortArc) → Contains l.arcs.items a ⊎ (l.bound ≤ℤ val a) → (a ≡ b.arc) ⊎ (b.second ≤ℤ val a)
-  told_other a (inl there) = All-contains (λ c. (c ≡ b.arc) ⊎ (b.second ≤ℤ val c)) l.arcs.items a its.others there
-  told_other a (inr out) = inr (omega (arith, ints, below, out))
+  listed_other : (a : ShortArc) → Contains l.arcs.items a ⊎ (l.bound ≤ℤ val a) → (a ≡ b.arc) ⊎ (b.second ≤ℤ val a)
+  listed_other a (inl there) = All-contains (λ c. (c ≡ b.arc) ⊎ (b.second ≤ℤ val c)) l.arcs.items a its.others there
+  listed_other a (inr out) = inr (omega (arith, ints, below, out))
 
   best_gathered : Gathered val row l → IsBest val row b
   best_gathered g = record {
     listed = All-contains (Contains row) l.arcs.items b.arc g.members its.listed;
     is = its.is;
     range = its.range;
-    others = All-weaker (λ a. Contains l.arcs.items a ⊎ (l.bound ≤ℤ val a)) (λ a. (a ≡ b.arc) ⊎ (b.second ≤ℤ val a)) told_other row g.rest;
+    others = All-weaker (λ a. Contains l.arcs.items a ⊎ (l.bound ≤ℤ val a)) (λ a. (a ≡ b.arc) ⊎ (b.second ≤ℤ val a)) listed_other row g.rest;
     least = its.least;
     second_is = inr (record { range = value.range; arc = value.arc; listed = All-contains (Contains row) l.arcs.items value.arc g.members value.listed; below = value.below });
   }
 
-  pub best_told : 2 ≤ length l.arcs.items → Says val row l → IsBest val row b
-  best_told two (inl none) = absurd (let e = ap length none in omega (arith, e, two))
-  best_told two (inr g) = best_gathered g
+  pub best_listed : 2 ≤ length l.arcs.items → Says val row l → IsBest val row b
+  best_listed two (inl none) = absurd (let e = ap length none in omega (arith, e, two))
+  best_listed two (inr g) = best_gathered g
 
 -- ---- making a list
 

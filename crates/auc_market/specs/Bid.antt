@@ -17,8 +17,8 @@ pub record IsRaise (scale eps : ℤ) (prices : List ℤ) (row : List ShortArc) (
 -- arc's plus the margin. Where there is no other arc, the margin is at most the scaled spread of all costs.
 pub record IsOffer (scale spread eps : ℤ) (prices : List ℤ) (row : List ShortArc) (arc : ShortArc) (amount : ℤ) : Type 0 where
   pub listed : Contains row arc
-  pub lead : ℤ
-  pub low : pos 0 ≤ℤ lead
-  pub others : All (λ b. (b ≡ arc) ⊎ ((short_value scale prices arc +ℤ lead) ≤ℤ short_value scale prices b)) row
-  pub only : All (λ b. b ≡ arc) row → lead ≤ℤ (scale *ℤ spread)
-  pub is : amount ≡ ((price_at prices arc.object +ℤ lead) +ℤ eps)
+  pub margin : ℤ
+  pub low : pos 0 ≤ℤ margin
+  pub others : All (λ b. (b ≡ arc) ⊎ ((short_value scale prices arc +ℤ margin) ≤ℤ short_value scale prices b)) row
+  pub only : All (λ b. b ≡ arc) row → margin ≤ℤ (scale *ℤ spread)
+  pub is : amount ≡ ((price_at prices arc.object +ℤ margin) +ℤ eps)

@@ -8,7 +8,7 @@ use Rattle.auc_market.specs.declared.holdings.Holdings.{Holdings}
 use Rattle.auc_market.specs.declared.holdings.TheConstants.{NOBODY}
 use Rattle.auc_market.specs.Bid.{IsOffer}
 use Rattle.auc_market.specs.Market.{holder_at, no_own, own_at}
-use Rattle.auc_market.specs.Way.{IsWay}
+use Rattle.auc_market.specs.Augmented.{IsAugmented}
 
 -- the prices, the holder of each object, and the arc by which each person holds an object
 pub record State : Type 0 where
@@ -39,7 +39,7 @@ pub record IsBidMade (r : FlatTable) (eps : ℤ) (s t : State) : Type 0 where
 pub record IsPathMade (r : FlatTable) (eps : ℤ) (s t : State) : Type 0 where
   pub person : ℕ
   pub free : ℕ
-  pub way : IsWay r eps person s.prices t.prices t.holders s.owns t.owns free
+  pub augmented : IsAugmented r eps person s.prices t.prices t.holders s.owns t.owns free
 
 -- this number of bids leads from one state to another, with paths between them
 pub data AreMade (r : FlatTable) (eps : ℤ) (s : State) : ℕ → State → Type 0 where

@@ -6,7 +6,7 @@ pub mod Phases
 pub mod Market
 pub mod Shortlist
 pub mod Starts
-pub mod Way
+pub mod Augmented
 pub mod Endings
 pub mod Incumbent
 pub mod Position

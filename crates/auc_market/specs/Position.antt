@@ -15,7 +15,7 @@ use Rattle.auc_market.specs.Incumbent.{IsIncumbent}
 use Rattle.auc_market.specs.Market.{HaveAllBut, HaveObjects, IsAbove, IsAwarded, Stands, own_at}
 use Rattle.auc_market.specs.Phases.{IsOpened, IsPhase, IsRefined}
 use Rattle.auc_market.specs.Shortlist.{Kept}
-use Rattle.auc_market.specs.Way.{IsWay}
+use Rattle.auc_market.specs.Augmented.{IsAugmented}
 
 -- The rows, eps, the prices, the holder of each object, and the arc by which each person holds one. Also whether there
 -- is an incumbent, and its arcs.
@@ -77,7 +77,7 @@ pub record IsBid (person : ℕ) (old new : Position) (displaced : ℕ) : Type 0 
 pub record IsMove (person : ℕ) (old new : Position) (freed : ℕ) : Type 0 where
   pub table : new.table ≡ old.table
   pub eps : new.eps ≡ old.eps
-  pub way : IsWay old.table old.eps person old.prices new.prices new.holders old.owns new.owns freed
+  pub augmented : IsAugmented old.table old.eps person old.prices new.prices new.holders old.owns new.owns freed
 
 -- bids, with paths between them; of the bids allowed, this number is left
 pub record Spends (before left : ℕ) (old new : Position) : Type 0 where

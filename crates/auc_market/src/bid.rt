@@ -43,7 +43,7 @@ pub(crate) fn scaled_spread(rows: &FlatRows) -> i64
 /// How far the second-best value of a row is above the best one; the scaled spread of all costs where there is no
 /// second arc.
 #[inline(always)]
-fn lead_of(rows: &FlatRows, best: Best) -> i64
+fn margin_of(rows: &FlatRows, best: Best) -> i64
     requires value { IsValue best.value }
     requires second { best.second <ℤ endless → IsValue best.second }
     requires order { best.value ≤ℤ best.second }
@@ -61,14 +61,14 @@ fn lead_of(rows: &FlatRows, best: Best) -> i64
 
 /// The price plus the margin to the second-best value plus eps.
 #[inline(always)]
-fn amount_of(price: i64, lead: i64, eps: i64) -> i64
+fn amount_of(price: i64, margin: i64, eps: i64) -> i64
     requires price { IsPrice price }
-    requires lead_low { pos 0 ≤ℤ lead }
-    requires lead_high { lead ≤ℤ pos (2 ^ 61 + 2 ^ 46) }
+    requires margin_low { pos 0 ≤ℤ margin }
+    requires margin_high { margin ≤ℤ pos (2 ^ 61 + 2 ^ 46) }
     requires eps { IsEps eps }
-    ensures { result ≡ (price +ℤ lead) +ℤ eps }
+    ensures { result ≡ (price +ℤ margin) +ℤ eps }
 {
-    price + lead + eps
+    price + margin + eps
 }
 
 /// A person's bid at these prices, indexed by object. It is on the best arc, and so high that the arc's value is then
@@ -87,9 +87,9 @@ pub(crate) fn bid_of(rows: &FlatRows, eps: i64, _person: u32, best: Best, prices
     // Read here, so that the proof knows the invariant of the rows.
     let _ = rows.persons();
     let arc = best.arc;
-    let lead = lead_of(rows, best);
+    let margin = margin_of(rows, best);
     Bid {
-        amount: amount_of(prices[arc.object as usize], lead, eps),
+        amount: amount_of(prices[arc.object as usize], margin, eps),
         arc,
     }
 }

@@ -25,8 +25,8 @@ fn ended_at(ended: u64, left: u64, displaced: u32) -> u64
 
 impl<'a> Market<'a> {
     /// The free person after a bid, with `left` bids left; NOBODY where nobody is free. This is the displaced person.
-    /// Where each of the last `pace.patience` bids has displaced a person, it is the free person after a search for a
-    /// path. A search is no bid.
+    /// Where each of the last `pace.bids_before_search` bids has displaced a person, it is the free person after a search
+    /// for a path. A search is no bid.
     #[inline(always)]
     pub(crate) fn freed_by(
         &mut self,
@@ -42,17 +42,17 @@ impl<'a> Market<'a> {
         self.law();
         *ended = ended_at(*ended, left, displaced);
         // No search is made where nobody was displaced: the chain has ended here then.
-        if ended.saturating_sub(left) <= pace.patience.saturating_sub(1) {
+        if ended.saturating_sub(left) <= pace.bids_before_search.saturating_sub(1) {
             return Ok(displaced);
         }
         *ended = left;
-        let way = self.path(displaced)?;
-        pace.learn(way.looked);
-        Ok(way.free)
+        let augmented = self.path(displaced)?;
+        pace.learn(augmented.scanned);
+        Ok(augmented.free)
     }
 
     /// A person bids, then the displaced person, and so on, until nobody is displaced. `left` is the number of bids
-    /// that the phase may still make. After each `pace.patience` bids there is a search for a path.
+    /// that the phase may still make. After each `pace.bids_before_search` bids there is a search for a path.
     pub(crate) fn chain(
         &mut self,
         first: u32,
@@ -66,7 +66,7 @@ impl<'a> Market<'a> {
     {
         self.law();
         let mut person = first;
-        let mut ended = left.saturating_add(pace.walked);
+        let mut ended = left.saturating_add(pace.bids_since_search);
         while *left > 0 {
             let Some(displaced) = self.bid(person) else {
                 return Ok(Chain::Ceiling);
@@ -74,11 +74,11 @@ impl<'a> Market<'a> {
             *left -= 1;
             person = self.freed_by(displaced, *left, &mut ended, pace)?;
             if person == NOBODY {
-                pace.walked = 0;
+                pace.bids_since_search = 0;
                 return Ok(Chain::Placed);
             }
         }
-        pace.walked = ended.saturating_sub(*left);
+        pace.bids_since_search = ended.saturating_sub(*left);
         Ok(Chain::Bids)
     }
 }

@@ -4,7 +4,7 @@ ghost use Rattle.std.specs.Prelude.{◌≡◌, ◌≢◌, ◌<◌, ◌≤◌, �
 ghost use Rattle.auc_market.specs.Market.{holder_at, no_own, own_at};
 
 use crate::bid::Bid;
-use crate::scan::worth;
+use crate::scan::wrapping_value;
 use auc_rows::ShortArc;
 use std::alloc::{AllocError, Global};
 
@@ -18,7 +18,7 @@ pub(crate) const NO_OWN: ShortArc = ShortArc {
 };
 
 /// In place of the own value of a person who holds nothing: no arc has a lower value.
-const NOTHING: i64 = -17_592_186_044_416;
+const NO_OWN_VALUE: i64 = -17_592_186_044_416;
 
 /// Prices in scaled costs and holders, both indexed by object, and own arcs, indexed by person.
 #[derive(Drop)]
@@ -152,14 +152,14 @@ impl Holdings {
 
     /// The value of the arc by which a person holds an object, by sums that wrap.
     #[inline]
-    pub(crate) fn own_worth(&self, scale: i64, person: u32) -> i64 {
+    pub(crate) fn own_value(&self, scale: i64, person: u32) -> i64 {
         if person as usize >= self.owns.len() {
-            return NOTHING;
+            return NO_OWN_VALUE;
         }
         let own = self.owns[person as usize];
         if own.object as usize >= self.prices.len() {
-            return NOTHING;
+            return NO_OWN_VALUE;
         }
-        worth(scale, own.cost, self.prices[own.object as usize])
+        wrapping_value(scale, own.cost, self.prices[own.object as usize])
     }
 }

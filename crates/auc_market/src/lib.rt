@@ -13,6 +13,7 @@
 //! `refine.rt` refines prices, and `starts.rt` seats persons at start prices.
 #![tactic(auto)]
 
+mod augmented;
 mod best;
 mod bid;
 mod chain;
@@ -36,7 +37,6 @@ mod starts;
 mod step;
 mod turns;
 mod watch;
-mod way;
 
 pub use ending::Ending;
 pub use hall::HallSet;

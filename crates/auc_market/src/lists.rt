@@ -7,13 +7,13 @@ ghost use Rattle.auc_market.specs.Scan.{short_value};
 ghost use Rattle.auc_market.specs.Shortlist.{IsBest, Kept};
 
 use crate::best::{Best, best_of};
-use crate::shortlist::{ROOM, Shortlist, Values};
+use crate::shortlist::{LIST_CAPACITY, Shortlist, Values};
 use auc_rows::FlatRows;
 use std::alloc::{AllocError, Global};
 
 /// The least number of arcs of a row that has a candidate list. In shorter rows a mispredicted branch takes as long as
 /// the list saves.
-pub const LONG: usize = 48;
+pub const LONG_ROW: usize = 48;
 
 /// A candidate list for each person, indexed by person, where most arcs are in long rows; else none. And scratch space
 /// for making lists.
@@ -32,7 +32,7 @@ impl Lists {
         let mut long: usize = 0;
         for person in 0..rows.persons() {
             let arcs = rows.row(person).len();
-            if arcs >= LONG {
+            if arcs >= LONG_ROW {
                 long = long.saturating_add(arcs);
             }
         }
@@ -44,7 +44,7 @@ impl Lists {
         }
         Ok(Lists {
             lists,
-            values: [i64::MAX; ROOM],
+            values: [i64::MAX; LIST_CAPACITY],
         })
     }
 
@@ -63,10 +63,10 @@ impl Lists {
     {
         let row = rows.row(person);
         let place = person as usize;
-        if row.len() < LONG || place >= self.lists.len() {
+        if row.len() < LONG_ROW || place >= self.lists.len() {
             return best_of(scale, row, prices);
         }
-        if let Some(best) = self.lists[place].told(scale, prices) {
+        if let Some(best) = self.lists[place].listed_best(scale, prices) {
             return best;
         }
         self.lists[place].best_anew(scale, row, prices, &mut self.values)

@@ -29,15 +29,15 @@ ghost use Rattle.auc_market.specs.Halts.{IsHalt};
 ghost use Rattle.auc_market.specs.Market.{IsAbove, Stands, own_at};
 ghost use Rattle.auc_market.specs.Position.{AreHandedOn, Begins, IsBegun, IsBid, IsFree, IsMove, IsRefinedWhole, IsRefinement, Law};
 
+use crate::augmented::Augmented;
 use crate::bid::scaled_spread;
 use crate::ending::Ending;
 use crate::halt::Halt;
 use crate::holdings::{Holdings, NO_OWN, NOBODY};
 use crate::incumbent::Incumbent;
 use crate::lists::Lists;
-use crate::scan::worth_of;
+use crate::scan::wrapping_value_of;
 use crate::search::Search;
-use crate::way::Way;
 use auc_rows::FlatRows;
 use std::alloc::{AllocError, Global};
 use std::marker::Model;
@@ -154,7 +154,7 @@ impl<'a> Market<'a> {
         let scale = rows.scale();
         let apart = rows.persons().checked_div(sample).unwrap_or(1).max(1);
         let mut sum = 0i64;
-        let mut looked = 0i64;
+        let mut scanned = 0i64;
         for person in 0..rows.persons() {
             if person % apart != 0 {
                 continue;
@@ -162,14 +162,14 @@ impl<'a> Market<'a> {
             let mut low = i64::MAX;
             let mut high = i64::MIN;
             for arc in rows.row(person) {
-                let value = worth_of(scale, *arc, self.holdings.prices.as_slice());
+                let value = wrapping_value_of(scale, *arc, self.holdings.prices.as_slice());
                 low = low.min(value);
                 high = high.max(value);
             }
             sum = sum.saturating_add(high.saturating_sub(low).max(0));
-            looked = looked.saturating_add(1);
+            scanned = scanned.saturating_add(1);
         }
-        let mean = sum.checked_div(looked).unwrap_or(0);
+        let mean = sum.checked_div(scanned).unwrap_or(0);
         mean.min(scaled_spread(rows)).max(LAST_EPS)
     }
 
@@ -207,31 +207,31 @@ impl<'a> Market<'a> {
     /// # Errors
     ///
     /// A Hall violator, or memory was refused.
-    pub(crate) fn path(&mut self, person: u32) -> Result<Way, Halt>
+    pub(crate) fn path(&mut self, person: u32) -> Result<Augmented, Halt>
         requires { IsFree self.old person }
-        ensures way { IfOk result (λ w. IsMove person self.old self.new w.free) }
+        ensures augmented { IfOk result (λ w. IsMove person self.old self.new w.free) }
         ensures halt { IfErr result (IsHalt self.old.table) }
     {
         let rows = self.rows;
         let search = &mut self.search;
         self.holdings
-            .find_way(self.alloc, rows, self.eps, person, search)
+            .find_path(self.alloc, rows, self.eps, person, search)
     }
 
-    /// Price refinement: raises prices, with at most `looks` scans of persons, until each person is within 1 of the
+    /// Price refinement: raises prices, with at most `scans` scans of persons, until each person is within 1 of the
     /// best. The assignment has the least cost then, and eps is the last one. Returns whether that was reached. Where
     /// the refinement was begun but not finished, nobody holds anything afterwards.
-    pub fn refine(&mut self, looks: u64) -> Result<bool, AllocError>
+    pub fn refine(&mut self, scans: u64) -> Result<bool, AllocError>
         requires square { self.old.table.objects ≡ length self.old.table.rows }
         ensures refined { OnOk result (IsRefinement self.old self.new) }
         ensures whole { IfOk result (λ b. b ≡ true → IsRefinedWhole self.new) }
     {
-        if looks == 0 {
+        if scans == 0 {
             return Ok(false);
         }
         let rows = self.rows;
         let lists = &mut self.lists;
-        let is_least = self.holdings.refine(self.alloc, rows, looks, lists)?;
+        let is_least = self.holdings.refine(self.alloc, rows, scans, lists)?;
         if !is_least {
             self.holdings.set_aside(&mut self.incumbent);
             self.holdings.open();

@@ -1,8 +1,8 @@
 //! When a chain of bids searches for a path. Only numbers of bids and arcs are seen here, so no answer depends on it.
 
-use crate::lists::LONG;
+use crate::lists::LONG_ROW;
 use crate::market::LAST_EPS;
-use crate::shortlist::ROOM;
+use crate::shortlist::LIST_CAPACITY;
 use auc_rows::FlatRows;
 
 /// The tuning numbers that pace a phase.
@@ -24,12 +24,12 @@ pub struct Pace {
     // About how many arcs a bid scans; and how many bids take as long as a search.
     arcs_a_bid: u64,
     search: u64,
-    // How many times as long as a search a chain may take. `patience` is that as a number of bids, each of which
-    // displaces a person.
+    // How many times as long as a search a chain may take. `bids_before_search` is that as a number of bids, each of
+    // which displaces a person.
     times: u64,
-    pub(crate) patience: u64,
+    pub(crate) bids_before_search: u64,
     // The number of such bids since the last search, where a slice of a phase has ended.
-    pub(crate) walked: u64,
+    pub(crate) bids_since_search: u64,
     // The number of bids of a phase between two questions to a watch.
     pub(crate) slice: u64,
     /// The number of bids that the phase has made.
@@ -42,7 +42,7 @@ impl Pace {
         let mean = rows.arc_count().checked_div(rows.persons() as usize);
         let mean = mean.unwrap_or(1).max(1);
         // The arcs of the mean row, or of a candidate list.
-        let arcs_a_bid = if mean < LONG { mean } else { ROOM } as u64;
+        let arcs_a_bid = if mean < LONG_ROW { mean } else { LIST_CAPACITY } as u64;
         let arcs = (rows.arc_count() as u64).saturating_mul(pacing.search);
         let arcs = arcs.checked_div(pacing.early).unwrap_or(arcs);
         Pace {
@@ -51,8 +51,8 @@ impl Pace {
             search: arcs.checked_div(arcs_a_bid).unwrap_or(1),
             times: pacing.early,
             slice: pacing.slice.checked_div(arcs_a_bid).unwrap_or(1),
-            patience: 1,
-            walked: 0,
+            bids_before_search: 1,
+            bids_since_search: 0,
             made: 0,
         }
     }
@@ -65,16 +65,16 @@ impl Pace {
         } else {
             self.pacing.early
         };
-        self.patience = self.search.saturating_mul(self.times).max(1);
+        self.bids_before_search = self.search.saturating_mul(self.times).max(1);
     }
 
-    /// Takes in a search that has scanned `looked` arcs: the new estimate is the mean of the old one and this search.
-    pub(crate) fn learn(&mut self, looked: u64) {
-        let bids = looked
+    /// Takes in a search that has scanned `scanned` arcs: the new estimate is the mean of the old one and this search.
+    pub(crate) fn learn(&mut self, scanned: u64) {
+        let bids = scanned
             .saturating_mul(self.pacing.search)
             .checked_div(self.arcs_a_bid)
             .unwrap_or(1);
         self.search = (self.search / 2).saturating_add(bids / 2);
-        self.patience = self.search.saturating_mul(self.times).max(1);
+        self.bids_before_search = self.search.saturating_mul(self.times).max(1);
     }
 }

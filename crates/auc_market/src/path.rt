@@ -8,7 +8,7 @@ ghost use Rattle.auc_market.specs.declared.holdings.TheConstants.{NOBODY};
 ghost use Rattle.auc_market.specs.Market.{AreHigher, Stands, own_at};
 ghost use Rattle.auc_market.specs.Path.{AreRaised, AreRises, AreWithin, IsWithin};
 ghost use Rattle.auc_market.specs.Starts.{any_eps};
-ghost use Rattle.auc_market.specs.Way.{IsWay};
+ghost use Rattle.auc_market.specs.Augmented.{IsAugmented};
 
 use crate::bid::Bid;
 use crate::holdings::{Holdings, NOBODY};
@@ -126,7 +126,7 @@ impl Holdings {
         requires person { person < length rows.now.rows }
         requires stands { Stands rows.now eps self.old.prices.items self.old.holders.items self.old.owns.items }
         requires none { (own_at self.old.owns.items person).object ≡ NOBODY }
-        ensures { IsWay rows.now eps person self.old.prices.items self.new.prices.items self.new.holders.items
+        ensures { IsAugmented rows.now eps person self.old.prices.items self.new.prices.items self.new.holders.items
             self.old.owns.items self.new.owns.items result }
     {
         let row = rows.row(person);
@@ -155,7 +155,7 @@ impl Holdings {
         requires person { person < length rows.now.rows }
         requires stands { Stands rows.now eps self.old.prices.items self.old.holders.items self.old.owns.items }
         requires none { (own_at self.old.owns.items person).object ≡ NOBODY }
-        ensures { IsWay rows.now eps person self.old.prices.items self.new.prices.items self.new.holders.items
+        ensures { IsAugmented rows.now eps person self.old.prices.items self.new.prices.items self.new.holders.items
             self.old.owns.items self.new.owns.items result }
     {
         if !self.rise(rows, eps, rises) {

@@ -90,7 +90,7 @@ impl Holdings {
     {
         let scale = rows.scale();
         let best = lists.best(rows, scale, person, self.prices.as_slice());
-        let least = self.own_worth(scale, person).saturating_sub(1);
+        let least = self.own_value(scale, person).saturating_sub(1);
         if least <= best.value {
             queue.pop();
             return true;
@@ -105,11 +105,11 @@ impl Holdings {
         true
     }
 
-    /// Raises prices, with at most `looks` scans of persons, until the queue is empty; returns whether it is.
+    /// Raises prices, with at most `scans` scans of persons, until the queue is empty; returns whether it is.
     fn lift_all(
         &mut self,
         rows: &FlatRows,
-        looks: u64,
+        scans: u64,
         lists: &mut Lists,
         queue: &mut Queue,
     ) -> bool
@@ -121,7 +121,7 @@ impl Holdings {
         ensures kept { Kept rows.now self.new.prices.items lists.new.lists.items }
     {
         let persons = rows.persons();
-        for _ in 0..looks {
+        for _ in 0..scans {
             let person = queue.first;
             if person >= persons {
                 break;
@@ -133,13 +133,13 @@ impl Holdings {
         queue.first == NOBODY
     }
 
-    /// Raises prices, with at most `looks` scans of persons, until each person is within 1 of the best. Returns whether
+    /// Raises prices, with at most `scans` scans of persons, until each person is within 1 of the best. Returns whether
     /// that was reached and each person has an object.
     pub(crate) fn refine(
         &mut self,
         alloc: Global,
         rows: &FlatRows,
-        looks: u64,
+        scans: u64,
         lists: &mut Lists,
     ) -> Result<bool, AllocError>
         requires arcs { EachHasArc rows.now }
@@ -159,7 +159,7 @@ impl Holdings {
             return Ok(false);
         }
         let mut queue = Queue::of_all(alloc, rows.persons())?;
-        if !self.lift_all(rows, looks, lists, &mut queue) {
+        if !self.lift_all(rows, scans, lists, &mut queue) {
             return Ok(false);
         }
         Ok(self.all_within(rows, LAST_EPS))

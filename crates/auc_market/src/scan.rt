@@ -67,15 +67,15 @@ impl Found {
 
 /// The value of an arc of this cost at this price, by sums that wrap: for searches, whose proposals are tried.
 #[inline(always)]
-pub(crate) fn worth(scale: i64, cost: i32, price: i64) -> i64 {
+pub(crate) fn wrapping_value(scale: i64, cost: i32, price: i64) -> i64 {
     scale.wrapping_mul(i64::from(cost)).wrapping_add(price)
 }
 
 /// The same for an arc; the greatest number where its object has no price.
 #[inline(always)]
-pub(crate) fn worth_of(scale: i64, arc: ShortArc, prices: &[i64]) -> i64 {
+pub(crate) fn wrapping_value_of(scale: i64, arc: ShortArc, prices: &[i64]) -> i64 {
     if (arc.object as usize) < prices.len() {
-        worth(scale, arc.cost, prices[arc.object as usize])
+        wrapping_value(scale, arc.cost, prices[arc.object as usize])
     } else {
         i64::MAX
     }

@@ -5,7 +5,7 @@
 //! So sums may wrap here.
 
 use crate::holdings::{Holdings, NOBODY};
-use crate::scan::worth;
+use crate::scan::wrapping_value;
 use auc_rows::FlatRows;
 use std::alloc::{AllocError, Global};
 use std::collections::BinaryHeap;
@@ -78,7 +78,7 @@ pub(crate) struct Search {
     heap: BinaryHeap<(u64, u32)>,
     end: Settled,
     pub(crate) settled: Vec<Settled>,
-    pub(crate) looked: u64,
+    pub(crate) scanned: u64,
     pub(crate) rises: Vec<Rise>,
     pub(crate) route: Vec<u32>,
 }
@@ -92,7 +92,7 @@ impl Search {
             heap: BinaryHeap::new(alloc),
             end: NOWHERE,
             settled: Vec::new(alloc),
-            looked: 0,
+            scanned: 0,
             rises: Vec::new(alloc),
             route: Vec::new(alloc),
         }
@@ -111,20 +111,20 @@ impl Search {
         }
         let scale = rows.scale();
         let row = rows.row(taker.person);
-        let own = holdings.own_worth(scale, taker.person);
+        let own = holdings.own_value(scale, taker.person);
         let many = self
             .labels
             .len()
             .min(holdings.prices.len())
             .min(holdings.holders.len());
-        self.looked = self.looked.saturating_add(row.len() as u64);
+        self.scanned = self.scanned.saturating_add(row.len() as u64);
         for place in 0..row.len() {
             let arc = row[place];
             let object = arc.object as usize;
             if object >= many {
                 continue;
             }
-            let more = worth(scale, arc.cost, holdings.prices[object])
+            let more = wrapping_value(scale, arc.cost, holdings.prices[object])
                 .wrapping_sub(own)
                 .max(0);
             let near = taker.near.saturating_sub(more.unsigned_abs());
@@ -172,7 +172,7 @@ impl Search {
         self.rises.clear();
         self.route.clear();
         self.end = NOWHERE;
-        self.looked = 0;
+        self.scanned = 0;
         let mut taker = Taker {
             person: start,
             near: NEAREST,

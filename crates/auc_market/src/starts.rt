@@ -12,12 +12,12 @@ ghost use Rattle.auc_market.specs.Starts.{AreKept, AreOpened, ArePricesOf, AreSe
 use crate::bid::Bid;
 use crate::holdings::{Holdings, NOBODY};
 use crate::market::{LAST_EPS, Market};
-use crate::scan::worth_of;
+use crate::scan::wrapping_value_of;
 use auc_rows::FlatRows;
 use std::alloc::{AllocError, Global};
 
 /// The number of passes over all persons before the start prices are given up.
-const PASSES: u32 = 8;
+const START_PASSES: u32 = 8;
 
 /// The prices before anybody holds anything: the start prices where there are as many objects as persons, else 0.
 fn prices_before(alloc: Global, rows: &FlatRows, start: &[i64]) -> Result<Vec<i64>, AllocError>
@@ -43,12 +43,14 @@ impl Holdings {
         let scale = rows.scale();
         let mut least = i64::MAX;
         for arc in rows.row(person) {
-            least = least.min(worth_of(scale, *arc, start));
+            least = least.min(wrapping_value_of(scale, *arc, start));
         }
         let most = least.saturating_add(eps);
         let mut place: u32 = 0;
         for arc in rows.row(person) {
-            if self.holder_of(arc.object) == NOBODY && worth_of(scale, *arc, start) <= most {
+            if self.holder_of(arc.object) == NOBODY
+                && wrapping_value_of(scale, *arc, start) <= most
+            {
                 break;
             }
             place = place.saturating_add(1);
@@ -109,7 +111,7 @@ impl Holdings {
         ensures stands { Stands rows.now eps self.new.prices.items self.new.holders.items self.new.owns.items }
         ensures kept { AreKept self.old.prices.items self.new.prices.items }
     {
-        for _ in 0..PASSES {
+        for _ in 0..START_PASSES {
             if !self.release(rows, eps) {
                 return;
             }

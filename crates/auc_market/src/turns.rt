@@ -65,7 +65,7 @@ impl<'a> Market<'a> {
             return Ok(Chain::Placed);
         }
         let mut fresh = self.free_from(other + 1, until, person, other);
-        let mut ended = left.saturating_add(pace.walked);
+        let mut ended = left.saturating_add(pace.bids_since_search);
         while *left > 0 {
             let Some(displaced) = self.bid(person) else {
                 return Ok(Chain::Ceiling);
@@ -73,7 +73,7 @@ impl<'a> Market<'a> {
             *left -= 1;
             let freed = self.freed_by(displaced, *left, &mut ended, pace)?;
             if is_over(freed, fresh, until) {
-                pace.walked = 0;
+                pace.bids_since_search = 0;
                 *waiting = other;
                 return Ok(Chain::Placed);
             }
@@ -82,7 +82,7 @@ impl<'a> Market<'a> {
             other = next;
             fresh = self.free_from(from, until, person, other);
         }
-        pace.walked = ended.saturating_sub(*left);
+        pace.bids_since_search = ended.saturating_sub(*left);
         Ok(Chain::Bids)
     }
 

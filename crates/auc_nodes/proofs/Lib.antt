@@ -1,5 +1,6 @@
--- All of this is the crate's own.
-mod Chains
+-- for use above
+pub mod Chains
+-- for this crate
 mod Joining
 mod Tables
 mod Linked

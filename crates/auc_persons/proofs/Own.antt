@@ -6,6 +6,7 @@ use Rattle.std.proofs.lemmas.List.{append-nil}
 use Rattle.std.specs.List.{range_with_len, filter}
 use Rattle.std.proofs.lemmas.List.FromFn.{filter_of_map_range_with_len_more}
 use Rattle.auc_letters.specs.Persons.{persons_of}
+use Rattle.auc_graph.proofs.RowLaws.{not_equal}
 
 same : (xs : List ℕ) → map (λ x. x) xs ≡ xs
 same [] = refl
@@ -19,9 +20,6 @@ step s o n = ap (filter (test s o)) (sym (same (range_with_len 0 (n + 1)))) ∙ 
 
 pub own_yes : (s o n : ℕ) → n % o ≡ s → persons_of s o (n + 1) ≡ persons_of s o n ++ n ∷ []
 own_yes s o n e = step s o n ∙ ap (λ b. persons_of s o n ++ cond b (n ∷ []) []) (eq-eqb (n % o) s e)
-
-not_equal : (a b : ℕ) → a ≢ b → eqb a b ≡ false
-not_equal a b ne = grind (arith, nat_tests)
 
 pub own_no : (s o n : ℕ) → n % o ≢ s → persons_of s o (n + 1) ≡ persons_of s o n
 own_no s o n ne = step s o n ∙ ap (λ b. persons_of s o n ++ cond b (n ∷ []) []) (not_equal (n % o) s ne) ∙ append-nil (persons_of s o n)

@@ -14,9 +14,9 @@ use Rattle.auc_persons.specs.declared.bidder.scan.Scan.{Scan}
 use Rattle.auc_persons.specs.Blocks.{Above}
 use Rattle.auc_persons.specs.Scan.{IsValue, copy_in}
 use Rattle.auc_persons.specs.Search.{Covers, IsFound, IsLimit}
-use Rattle.auc_persons.proofs.Bounds.{product_below, value_high, value_low}
 use Rattle.auc_persons.specs.Priced.{no_arc}
 use Rattle.auc_persons.proofs.Found.{above_limit}
+use Rattle.auc_graph.proofs.ValueBounds.{product_below, value_high, value_low}
 
 -- ---- arc by arc
 

@@ -17,6 +17,8 @@ mod bounded;
 mod least;
 mod lists;
 mod lists_by_blocks;
+mod method;
+mod methods;
 pub(crate) mod person_row;
 mod priced_row;
 mod rising;
@@ -25,18 +27,16 @@ mod search;
 mod shortlist;
 mod sorted_row;
 mod sorting;
-mod way;
-mod ways;
 
 use crate::bidder::bid::bid_on;
 use crate::bidder::blocks::Blocks;
 use crate::bidder::lists::{lists_of, scan_list};
+use crate::bidder::methods::Methods;
 use crate::bidder::person_row::PersonRow;
 use crate::bidder::priced_row::PricedRow;
 use crate::bidder::scan::Scan;
 use crate::bidder::search::scan_from;
 use crate::bidder::shortlist::Shortlist;
-use crate::bidder::ways::Ways;
 use auc_graph::Rows;
 use auc_letters::Bid;
 use std::alloc::{AllocError, Global};
@@ -52,7 +52,7 @@ use std::marker::Model;
 /// All are of the rows that they were made for, and stay right as long as no copy of a price falls.
 #[derive(Drop)]
 pub struct Bidder {
-    ways: Ways,
+    methods: Methods,
     lists: Vec<Shortlist>,
     blocks: Blocks,
 }
@@ -63,7 +63,7 @@ impl Model for Bidder {
 
     ghost Value = { List Listed };
 
-    ghost view = { λ c. c.lists.items ++ (c.blocks ++ c.ways) };
+    ghost view = { λ c. c.lists.items ++ (c.blocks ++ c.methods) };
 }
 
 impl Bidder {
@@ -83,9 +83,9 @@ impl Bidder {
     {
         let lists = lists_of(alloc, rows, shard, of)?;
         let blocks = Blocks::make(alloc, rows, shard, of)?;
-        let ways = Ways::make(alloc, rows, shard, of)?;
+        let methods = Methods::make(alloc, rows, shard, of)?;
         Ok(Bidder {
-            ways,
+            methods,
             lists,
             blocks,
         })
@@ -116,7 +116,7 @@ impl Bidder {
         ensures none { IfNone result (arcs_of own.entry ≡ []) }
         ensures kept { KeptAt own.entry self.new }
     {
-        if let Some(place) = self.ways.place(own.person) {
+        if let Some(place) = self.methods.place(own.person) {
             let found = self.best_long(own, place);
             if found.is_some() {
                 return found;
@@ -145,7 +145,7 @@ impl Bidder {
         ensures none { IfNone result (arcs_of own.entry ≡ []) }
         ensures kept { KeptAt own.entry self.new }
     {
-        let found = self.ways.best(own);
+        let found = self.methods.best(own);
         if found.is_some() {
             return found;
         }

@@ -10,7 +10,7 @@
 //! found sooner ([`Bidder::bid`], [`PersonShard::next_bid_by`]).
 //!
 //! A short row is scanned as it is or as a sorted copy (`specs/Sorted.antt`). A longer one has a candidate list
-//! (`specs/Candidates.antt`), above 256 arcs also blocks with bounds (`specs/Blocks.antt`). See `bidder/way.rt`.
+//! (`specs/Candidates.antt`), above 256 arcs also blocks with bounds (`specs/Blocks.antt`). See `bidder/method.rt`.
 #![tactic(auto)]
 
 mod bidder;

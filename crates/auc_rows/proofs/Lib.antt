@@ -4,6 +4,5 @@ pub mod ArcLaws
 mod ShortRows
 mod InOrderLaws
 mod PlacedLaws
-mod SpreadLaws
 mod FrameLaws
 mod RowLaws

@@ -93,11 +93,11 @@ unstarted w n a b (Ok x) e h p = absurd p
 unstarted w n a b (Err x) e h p =
     subst (λ (y : Refusal). IsSolvedFromIn w n a b (Err y)) (sym p) (h.0, h.1, h.2, h.3, no_start_borne w n h.0 h.1 e h.4)
 
--- what holds in one hand, by messages alone, and in threads
-pub in_one_hand : (direct : Bool) (w : Watched) (n : SolveNumbers) (p : Problem) (start : List ℤ) (answer : Answer) → direct ≡ true
+-- what holds of a direct solve, by messages alone, and in threads
+pub direct_solve : (direct : Bool) (w : Watched) (n : SolveNumbers) (p : Problem) (start : List ℤ) (answer : Answer) → direct ≡ true
     → IsAnswer p answer × IsHeeded w p answer (IsLimitedFrom p n.bids start answer) → AnswersFrom direct w n p start answer
-in_one_hand true w n p start answer e h = h
-in_one_hand false w n p start answer e h = absurd (false≢true e)
+direct_solve true w n p start answer e h = h
+direct_solve false w n p start answer e h = absurd (false≢true e)
 
 pub by_messages_from : (direct : Bool) (w : Watched) (n : SolveNumbers) (p : Problem) (start : List ℤ) (answer : Answer) → direct ≡ false
     → MessagesFrom n.workers n p start answer → AnswersFrom direct w n p start answer

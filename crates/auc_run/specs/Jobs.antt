@@ -5,8 +5,8 @@ use Rattle.auc_run.specs.declared.command.Job.TheVariants.{Solve, Check, Hall, M
 use Rattle.auc_run.specs.declared.command.SolveNumbers.{SolveNumbers}
 
 -- The numbers of a solve: the threads of each kind of shard, the bids, the lines of a trail, and the objects, where 0
--- stands for as many as persons. Without threads there is no trail, whatever number is given for one. The solver in one
--- hand has no threads.
+-- stands for as many as persons. Without threads there is no trail, whatever number is given for one. The direct
+-- solver has no threads.
 pub record AreSolverNumbers (workers bids audit objects : ℕ) (direct : Bool) : Type 0 where
   pub most_workers : workers ≤ 16
   pub some_bids : 1 ≤ bids

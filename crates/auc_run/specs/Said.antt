@@ -28,7 +28,7 @@ reported report (Err refusal) = Err refusal
 
 -- The bytes of the two inputs bear the outcome of the job out: an answer about the problem, a verdict on the
 -- certificate's claim, a full assignment or the certificate that there is none, or the replies of a run of the mail. A
--- solve in one hand may be watched.
+-- direct solve may be watched.
 abbrev pub BearOutJob : Watched → Job → List ℕ → List ℕ → Result Report Refusal → Type 0
 BearOutJob w (Solve workers bids audit objects from direct) file cert outcome =
     let n : SolveNumbers =

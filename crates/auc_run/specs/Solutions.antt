@@ -30,7 +30,7 @@ BearOutSolved n file (Ok answer) =
     (p : Problem) × IsProblemOf n.objects file p × IsAnswer p answer × IsOfRun p (limits_of n.bids) None answer
 BearOutSolved n file (Err refusal) = BearOutRefusal n.objects file refusal
 
--- Who watches a solve in one hand: whether he has said no, and whether he was asked at all.
+-- Who watches a direct solve: whether he has said no, and whether he was asked at all.
 pub record Watched : Type 0 where
   pub stopped : Bool
   pub asked : Bool
@@ -51,7 +51,7 @@ IsLimitedOr true answer Holds = Holds ⊎ IsStopTold answer
 abbrev pub IsHeeded : Watched → Problem → Answer → Type 0 → Type 0
 IsHeeded w p answer Holds = IsAsked w.asked p answer × IsLimitedOr w.stopped answer Holds
 
--- The same of a solve in one hand. Where an answer is an assignment and a bound, the bids ran out, or somebody would
+-- The same of a direct solve. Where an answer is an assignment and a bound, the bids ran out, or somebody would
 -- bid more than the greatest price; or who watches has stopped it.
 abbrev pub BearOutDirect : Watched → SolveNumbers → List ℕ → Result Answer Refusal → Type 0
 BearOutDirect w n file (Ok answer) =
@@ -87,7 +87,7 @@ BearOutMessages (suc workers) n file answer = BearOutThreads n file answer
 abbrev pub IsSolvedByThreadsIn : SolveNumbers → Option (List ℕ) → Result Answer Refusal → Type 0
 IsSolvedByThreadsIn n reader answer = (file : List ℕ) × AreKnown reader file × BearOutThreads n file answer
 
--- what was answered in one hand about the problem that a reader has
+-- what was answered directly about the problem that a reader has
 abbrev pub IsDirectIn : Watched → SolveNumbers → Option (List ℕ) → Result Answer Refusal → Type 0
 IsDirectIn w n reader answer = (file : List ℕ) × AreKnown reader file × BearOutDirect w n file answer
 

@@ -25,7 +25,7 @@ use Rattle.auc_run.specs.Verdicts.{IsClaimOf}
 
 -- ---- the prices of a certificate
 
--- the solver in one hand starts from as many prices as there are objects, whatever the picks beside them
+-- the direct solver starts from as many prices as there are objects, whatever the picks beside them
 abbrev pub each_price : ℕ → List ℤ → Result (List ℤ) StartError
 each_price objects prices = if length prices == objects then start_unless prices (high_price prices) else Err OtherSize
 
@@ -34,7 +34,7 @@ direct_start_of p (Optimal cost choice prices) = each_price p.objects prices
 direct_start_of p (Infeasible those objects) = Err NoPrices
 direct_start_of p (Bracket reason lower cost choice prices) = each_price p.objects prices
 
--- where a solve starts, or why it can't: in one hand, or by messages
+-- where a solve starts, or why it can't: directly, or by messages
 abbrev pub start_for : Bool → Problem → CertParts → Result (List ℤ) StartError
 start_for true p claim = direct_start_of p claim
 start_for false p claim = start_of p claim
@@ -93,7 +93,7 @@ MessagesFrom zero n p start answer = IsAnswer p answer × IsOfRun p (limits_of n
 MessagesFrom (suc workers) n p start answer =
     IsThreadAnswer p answer × ((phases : List PhaseEnd) × IsSolvedBy p (thread_limits_of n) (Some start) phases answer)
 
--- an answer of a run from these prices: in one hand where that is asked for, or by messages
+-- an answer of a run from these prices: directly where that is asked for, or by messages
 abbrev pub AnswersFrom : Bool → Watched → SolveNumbers → Problem → List ℤ → Answer → Type 0
 AnswersFrom true w n p start answer = IsAnswer p answer × IsHeeded w p answer (IsLimitedFrom p n.bids start answer)
 AnswersFrom false w n p start answer = MessagesFrom n.workers n p start answer
@@ -122,7 +122,7 @@ abbrev pub IsSolvedFromIn : Watched → SolveNumbers → Option (List ℕ) → O
 IsSolvedFromIn w n first second answer =
     (file : List ℕ) × (cert : List ℕ) × AreKnown first file × AreKnown second cert × BearOutFrom w n file cert answer
 
--- a solve starts from an old certificate, or from nothing: then in one hand, or by messages
+-- a solve starts from an old certificate, or from nothing: then directly, or by messages
 abbrev pub BearOutSolving : Bool → Bool → Watched → SolveNumbers → List ℕ → List ℕ → Result Answer Refusal → Type 0
 BearOutSolving true direct w n file cert answer = BearOutFrom w n file cert answer
 BearOutSolving false true w n file cert answer = BearOutDirect w n file answer

@@ -49,9 +49,10 @@ pub enum Job {
         /// How many objects the problem has: to 20,000, and 0 for as many as persons.
         objects: u32,
         /// Whether it starts from the prices of an old certificate, which the second reader has: see
-        /// [`auc_claim::start_prices`]; in one hand any prices will do, one for each object, from 0 to 2^60.
+        /// [`auc_claim::start_prices`]; a direct solve takes any prices, one for each
+        /// object, from 0 to 2^60.
         from: bool,
-        /// Whether it is solved in one hand, by [`auc_direct::solve_direct`], in place of by messages: then there are
+        /// Whether it is solved directly, by [`auc_direct::solve_direct`], in place of by messages: then there are
         /// no workers and no trail.
         direct: bool,
     },
@@ -222,9 +223,9 @@ fn perform_plainly<R: Read, Q: Read, W: Write, V: Watch>(
 /// written, and not all of it.
 ///
 /// A problem is read piece by piece; a certificate and a script are read whole. A solve takes the time of the auction,
-/// by [`auc_world::solve_serial`], or in one hand by [`auc_direct::solve_direct`], and of one check. It takes 28 bytes
-/// of memory an arc and what its shards and mails take, which is linear in the persons; in one hand what
-/// [`auc_direct::solve_direct`] tells. A check takes O(bytes) time, and 16 bytes of memory an arc and that of the
+/// by [`auc_world::solve_serial`], or directly by [`auc_direct::solve_direct`], and of one check. It takes 28 bytes
+/// of memory an arc and what its shards and mails take, which is linear in the persons; a direct solve takes
+/// what [`auc_direct::solve_direct`] says. A check takes O(bytes) time, and 16 bytes of memory an arc and that of the
 /// certificate's text. A hall takes the time of its search, see [`auc_hall::complete`], and 28 bytes of memory an arc.
 /// A mail takes the time of its calls, and memory for its script, its lanes, its letters and a reply for each call.
 pub fn run_plain<R: Read, Q: Read, W: Write>(
@@ -256,7 +257,7 @@ pub fn run_plain<R: Read, Q: Read, W: Write>(
 }
 
 /// Does a job, as [`run_command`] does, and says how it ended: with its status, and why it was refused, where it was. A
-/// solve in one hand asks the watch whether it goes on, see [`auc_direct::solve_direct_watched`]; no other job does.
+/// direct solve asks the watch whether it goes on, see [`auc_direct::solve_direct_watched`]; no other job does.
 /// Where it has said no, an answer is as right as any other: it may be an assignment and a bound that no limit has
 /// made.
 pub fn perform<H: Threads + Wait + Sync, R: Read, Q: Read, W: Write, G: Gate + Sync, V: Watch>(
@@ -272,7 +273,7 @@ pub fn perform<H: Threads + Wait + Sync, R: Read, Q: Read, W: Write, G: Gate + S
     // The job's numbers are those that its fields allow.
     requires range { IsInRange job.now }
     // What was written, the status and the refusal are those of one outcome, which is right for the bytes that were
-    // read. A solve in one hand has asked the watch, but for a full table and where there is no assignment.
+    // read. A direct solve has asked the watch, but for a full table and where there is no assignment.
     ensures ended { Ended (watched (V.has_stopped watch.new) (V.was_asked watch.new)) job.now (R.remaining reader.old)
         (Q.remaining second.old) (W.contents writer.old) (W.contents writer.new) result }
     // A certificate for what is no problem is left unread.

@@ -1,4 +1,4 @@
-//! The job of a solve in one hand, and which of the two solvers does a solve without threads.
+//! The job of a direct solve, and which of the two solvers does a solve without threads.
 
 ghost use Rattle.std.specs.Prelude.{◌≡◌, ◌≤◌, true, false, IfSome, IsErr};
 ghost use Rattle.auc_graph.specs.Reading.{reading};
@@ -16,7 +16,7 @@ use auc_graph::MOST_ARCS;
 use std::alloc::Global;
 use std::io::Read;
 
-/// What the solver in one hand answers about the problem that the reader has, from nothing.
+/// What the direct solver answers about the problem that the reader has, from nothing.
 fn direct_answer_of<R: Read, V: Watch>(
     alloc: Global,
     reader: &mut R,
@@ -53,8 +53,8 @@ fn direct_answer_from<R: Read, Q: Read, V: Watch>(
     Ok(answer)
 }
 
-/// What is answered without threads about the first reader's problem, in one hand or by messages; from nothing, or from
-/// the prices of the second reader's certificate. The watch may stop the solver in one hand alone.
+/// What is answered without threads about the first reader's problem, directly or by messages; from nothing, or from
+/// the prices of the second reader's certificate. The watch may stop the direct solver alone.
 pub(crate) fn answer_alone<R: Read, Q: Read, V: Watch>(
     alloc: Global,
     reader: &mut R,

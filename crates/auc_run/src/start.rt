@@ -41,7 +41,7 @@ fn each_price(alloc: Global, objects: u32, prices: &[i64]) -> Result<Vec<i64>, S
     Ok(prices.to_vec(alloc)?)
 }
 
-/// The prices of a certificate from which the solver in one hand may start: one for each object, whatever the picks
+/// The prices of a certificate from which the direct solver may start: one for each object, whatever the picks
 /// beside them.
 fn direct_prices(alloc: Global, problem: &ArcList, cert: &Cert) -> Result<Vec<i64>, StartError>
     ensures exact { AnswersUnless StartError.NoMemory (λ v. v.items) result (λ r. r ≡ direct_start_of problem.now cert.now) }
@@ -55,7 +55,7 @@ fn direct_prices(alloc: Global, problem: &ArcList, cert: &Cert) -> Result<Vec<i6
     }
 }
 
-/// The prices of a certificate from which a solve may start, in one hand or by messages.
+/// The prices of a certificate from which a solve may start, directly or by messages.
 fn prices_of(
     alloc: Global,
     problem: &ArcList,
@@ -73,7 +73,7 @@ fn prices_of(
     }
 }
 
-/// The first reader's problem, and the prices of the second one's certificate, for a solve in one hand or by messages.
+/// The first reader's problem, and the prices of the second one's certificate, for a direct solve or by messages.
 /// The second reader is read once the problem is accepted.
 pub(crate) fn started_of<R: Read, Q: Read>(
     alloc: Global,

@@ -1,6 +1,6 @@
 //! Keys of the objects, holders, the object of each person, and bids by which persons take objects from one another.
 
-use crate::passes::{least_worth, object_of_worth};
+use crate::passes::{least_value, object_of_value};
 use crate::table::{Table, row_of};
 use std::alloc::{AllocError, Global};
 
@@ -8,7 +8,7 @@ use std::alloc::{AllocError, Global};
 pub(crate) const NOBODY: u32 = 4_294_967_295;
 
 /// The number of bids of a chain of displaced persons. The person displaced by the last one takes a path.
-const CHAIN: u32 = 4;
+const CHAIN_BIDS: u32 = 4;
 
 /// The best object of a person, and how much its price may rise until another one is as good; 0 where there is no other
 /// one.
@@ -20,27 +20,27 @@ struct Best {
 
 /// The best entry of a row; none of an empty one.
 fn best_of(row: &[i64], keys: &[i64]) -> Option<Best> {
-    let worth = least_worth(row, keys);
-    let object = object_of_worth(row, keys, worth)?;
-    let before = least_worth(&row[..object], &keys[..object]);
-    let after = least_worth(&row[object + 1..], &keys[object + 1..]);
+    let value = least_value(row, keys);
+    let object = object_of_value(row, keys, value)?;
+    let before = least_value(&row[..object], &keys[..object]);
+    let after = least_value(&row[object + 1..], &keys[object + 1..]);
     let second = before.min(after);
     let rise = if second == i64::MAX {
         0
     } else {
-        (second >> 1).wrapping_sub(worth >> 1)
+        (second >> 1).wrapping_sub(value >> 1)
     };
     Some(Best { object, rise })
 }
 
-/// The keys and the holders of the objects, and the object of each person. `looked` counts the entries that were
+/// The keys and the holders of the objects, and the object of each person. `scanned` counts the entries that were
 /// scanned.
 #[derive(Drop)]
 pub(crate) struct Market {
     pub(crate) keys: Vec<i64>,
     pub(crate) holders: Vec<u32>,
     pub(crate) owns: Vec<u32>,
-    pub(crate) looked: u64,
+    pub(crate) scanned: u64,
 }
 
 impl Market {
@@ -50,7 +50,7 @@ impl Market {
             keys: vec![in alloc; 0; objects as usize]?,
             holders: vec![in alloc; NOBODY; objects as usize]?,
             owns: vec![in alloc; NOBODY; persons as usize]?,
-            looked: 0,
+            scanned: 0,
         })
     }
 
@@ -77,7 +77,7 @@ impl Market {
     /// person. Where another object is as good as the best one and the best one has a holder, the person takes nothing.
     fn bid(&mut self, table: &Table, person: u32) -> Option<u32> {
         let row = row_of(table, person);
-        self.looked = self.looked.saturating_add(row.len() as u64);
+        self.scanned = self.scanned.saturating_add(row.len() as u64);
         let Best { object, rise } = best_of(row, self.keys.as_slice())?;
         if rise == 0 && self.holder_of(object).is_some() {
             return None;
@@ -98,7 +98,7 @@ impl Market {
     /// A person bids, then the displaced person, and so on.
     pub(crate) fn bid_in_chain(&mut self, table: &Table, first: u32) {
         let mut person = first;
-        for _ in 0..CHAIN {
+        for _ in 0..CHAIN_BIDS {
             match self.bid(table, person) {
                 Some(earlier) => person = earlier,
                 None => return,

@@ -6,34 +6,34 @@
 ghost use Rattle.std.specs.Prelude.{◌<◌, length, IfSome};
 
 /// The distance of an object that isn't reached.
-pub(crate) const FAR: i64 = 1_152_921_504_606_846_976;
+pub(crate) const UNREACHED: i64 = 1_152_921_504_606_846_976;
 
-/// Twice the value of an entry to the person of its row, plus one where its object has a holder: `worth` in names here.
+/// Twice the value of an entry to the person of its row, plus one where its object has a holder: `value` in names here.
 #[inline(always)]
-fn worth_of(cost: i64, key: i64) -> i64 {
+fn value_of(cost: i64, key: i64) -> i64 {
     cost.wrapping_mul(2).wrapping_add(key)
 }
 
 /// The least value of a row's entries.
 #[inline(never)]
-pub(crate) fn least_worth(row: &[i64], keys: &[i64]) -> i64 {
+pub(crate) fn least_value(row: &[i64], keys: &[i64]) -> i64 {
     let many = row.len().min(keys.len());
     let mut least = i64::MAX;
     for object in 0..many {
-        let worth = worth_of(row[object], keys[object]);
-        least = if worth < least { worth } else { least };
+        let value = value_of(row[object], keys[object]);
+        least = if value < least { value } else { least };
     }
     least
 }
 
 /// The first object whose entry is worth this.
-pub(crate) fn object_of_worth(row: &[i64], keys: &[i64], worth: i64) -> Option<usize>
+pub(crate) fn object_of_value(row: &[i64], keys: &[i64], value: i64) -> Option<usize>
     ensures row { IfSome result (λ object. object < length row.now) }
     ensures keys { IfSome result (λ object. object < length keys.now) }
 {
     let many = row.len().min(keys.len());
     for object in 0..many {
-        if worth_of(row[object], keys[object]) == worth {
+        if value_of(row[object], keys[object]) == value {
             return Some(object);
         }
     }
@@ -49,34 +49,38 @@ pub(crate) fn come_nearer(
     keys: &[i64],
     more: i64,
     person: u64,
-    fars: &mut [i64],
+    distances: &mut [i64],
     reached_by: &mut [u64],
 ) -> i64 {
     let many = row
         .len()
         .min(keys.len())
-        .min(fars.len())
+        .min(distances.len())
         .min(reached_by.len());
-    let mut nearest = FAR;
+    let mut nearest = UNREACHED;
     for object in 0..many {
-        let far = worth_of(row[object], keys[object]).wrapping_add(more);
-        let old = fars[object];
+        let distance = value_of(row[object], keys[object]).wrapping_add(more);
+        let old = distances[object];
         // Read in any case, so that there is no branch.
         let before = reached_by[object];
-        reached_by[object] = if far < old { person } else { before };
-        let far = if far < old { far } else { old };
-        fars[object] = far;
-        nearest = if far < nearest { far } else { nearest };
+        reached_by[object] = if distance < old { person } else { before };
+        let distance = if distance < old { distance } else { old };
+        distances[object] = distance;
+        nearest = if distance < nearest {
+            distance
+        } else {
+            nearest
+        };
     }
     nearest
 }
 
 /// The first object at this distance.
-pub(crate) fn object_as_far(fars: &[i64], far: i64) -> Option<usize>
-    ensures { IfSome result (λ object. object < length fars.now) }
+pub(crate) fn object_at(distances: &[i64], distance: i64) -> Option<usize>
+    ensures { IfSome result (λ object. object < length distances.now) }
 {
-    for object in 0..fars.len() {
-        if fars[object] == far {
+    for object in 0..distances.len() {
+        if distances[object] == distance {
             return Some(object);
         }
     }

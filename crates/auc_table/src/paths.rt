@@ -5,18 +5,18 @@
 //! anyway.
 
 use crate::market::{Market, NOBODY};
-use crate::passes::{FAR, come_nearer, object_as_far};
+use crate::passes::{UNREACHED, come_nearer, object_at};
 use crate::table::{Table, row_of};
 use std::alloc::{AllocError, Global};
 
 /// Added to the key of a settled object, so that its distance can't be improved.
-const DEAR: i64 = 2_305_843_009_213_693_952;
+const SETTLED_PENALTY: i64 = 2_305_843_009_213_693_952;
 
 /// An object and its distance.
 #[derive(Clone, Copy)]
 struct Settled {
     object: usize,
-    far: i64,
+    distance: i64,
 }
 
 /// The person whose row is relaxed, and what is added to an entry's value to give the distance of its object through
@@ -31,38 +31,38 @@ struct Reacher {
 /// objects in order.
 #[derive(Drop)]
 pub(crate) struct Search {
-    fars: Vec<i64>,
+    distances: Vec<i64>,
     reached_by: Vec<u64>,
-    line: Vec<Settled>,
+    settled: Vec<Settled>,
 }
 
 impl Search {
     /// No object is reached.
     pub(crate) fn new(alloc: Global, objects: u32) -> Result<Search, AllocError> {
         Ok(Search {
-            fars: vec![in alloc; FAR; objects as usize]?,
+            distances: vec![in alloc; UNREACHED; objects as usize]?,
             reached_by: vec![in alloc; 0; objects as usize]?,
-            line: Vec::new(alloc),
+            settled: Vec::new(alloc),
         })
     }
 
     /// Relaxes a row; returns the closest object that isn't settled.
-    fn look(&mut self, table: &Table, market: &mut Market, by: Reacher) -> Option<Settled> {
+    fn relax(&mut self, table: &Table, market: &mut Market, by: Reacher) -> Option<Settled> {
         let row = row_of(table, by.person);
-        market.looked = market.looked.saturating_add(row.len() as u64);
-        let far = come_nearer(
+        market.scanned = market.scanned.saturating_add(row.len() as u64);
+        let distance = come_nearer(
             row,
             market.keys.as_slice(),
             by.more,
             u64::from(by.person),
-            self.fars.as_mut_slice(),
+            self.distances.as_mut_slice(),
             self.reached_by.as_mut_slice(),
         );
-        if far >= FAR {
+        if distance >= UNREACHED {
             return None;
         }
-        let object = object_as_far(self.fars.as_slice(), far)?;
-        Some(Settled { object, far })
+        let object = object_at(self.distances.as_slice(), distance)?;
+        Some(Settled { object, distance })
     }
 
     /// Settles an object that this person holds; the person's row is the next one to relax.
@@ -74,19 +74,19 @@ impl Search {
         holder: u32,
     ) -> Result<Reacher, AllocError> {
         let object = settled.object;
-        self.line.push(settled)?;
+        self.settled.push(settled)?;
         let mut own = 0;
         let row = row_of(table, holder);
-        if object < self.fars.len() && object < market.keys.len() && object < row.len() {
-            self.fars[object] = FAR;
+        if object < self.distances.len() && object < market.keys.len() && object < row.len() {
+            self.distances[object] = UNREACHED;
             own = row[object]
                 .wrapping_mul(2)
                 .wrapping_add(market.keys[object]);
-            market.keys[object] = market.keys[object].wrapping_add(DEAR);
+            market.keys[object] = market.keys[object].wrapping_add(SETTLED_PENALTY);
         }
         Ok(Reacher {
             person: holder,
-            more: settled.far.wrapping_sub(own),
+            more: settled.distance.wrapping_sub(own),
         })
     }
 
@@ -103,7 +103,7 @@ impl Search {
             more: 0,
         };
         for _ in 0..=table.objects {
-            let Some(nearest) = self.look(table, market, by) else {
+            let Some(nearest) = self.relax(table, market, by) else {
                 return Ok(None);
             };
             let Some(holder) = market.holder_of(nearest.object) else {
@@ -117,10 +117,12 @@ impl Search {
     /// Takes the settled objects' keys back to what they were, and raises their prices by as much as they are closer
     /// than this.
     fn raise(&mut self, market: &mut Market, end: i64) {
-        for settled in &self.line {
+        for settled in &self.settled {
             if settled.object < market.keys.len() {
-                let rise = (end >> 1).wrapping_sub(settled.far >> 1).wrapping_mul(2);
-                let key = market.keys[settled.object].wrapping_sub(DEAR);
+                let rise = (end >> 1)
+                    .wrapping_sub(settled.distance >> 1)
+                    .wrapping_mul(2);
+                let key = market.keys[settled.object].wrapping_sub(SETTLED_PENALTY);
                 market.keys[settled.object] = key.wrapping_add(rise);
             }
         }
@@ -129,7 +131,7 @@ impl Search {
     /// From the free object back, each person takes the object that was reached through the person.
     fn hand_over(&self, market: &mut Market, start: u32, end: usize) {
         let mut object = end;
-        for _ in 0..=self.line.len() {
+        for _ in 0..=self.settled.len() {
             let Some(reacher) = self.reached_by.get(object) else {
                 return;
             };
@@ -153,14 +155,14 @@ impl Search {
         market: &mut Market,
         start: u32,
     ) -> Result<bool, AllocError> {
-        for object in 0..self.fars.len() {
-            self.fars[object] = FAR;
+        for object in 0..self.distances.len() {
+            self.distances[object] = UNREACHED;
         }
-        self.line.clear();
+        self.settled.clear();
         let Some(end) = self.find(table, market, start)? else {
             return Ok(false);
         };
-        self.raise(market, end.far);
+        self.raise(market, end.distance);
         if end.object < market.keys.len() {
             market.keys[end.object] = market.keys[end.object].wrapping_add(1);
         }

@@ -28,16 +28,16 @@ fn assign_all(
     table: &Table,
     market: &mut Market,
     search: &mut Search,
-    looks: u64,
+    scans: u64,
 ) -> Result<bool, AllocError> {
     for person in 0..table.persons {
-        if looks < market.looked {
+        if scans < market.scanned {
             return Ok(false);
         }
         market.bid_in_chain(table, person);
     }
     for person in 0..table.persons {
-        if looks < market.looked {
+        if scans < market.scanned {
             return Ok(false);
         }
         let own = market.owns.get(person as usize);
@@ -52,10 +52,10 @@ fn assign_all(
 }
 
 /// Searches a table without gaps.
-fn propose_full(alloc: Global, table: &Table, looks: u64) -> Result<Option<Proposal>, AllocError> {
+fn propose_full(alloc: Global, table: &Table, scans: u64) -> Result<Option<Proposal>, AllocError> {
     let mut market = Market::new(alloc, table.persons, table.objects)?;
     let mut search = Search::new(alloc, table.objects)?;
-    if !assign_all(table, &mut market, &mut search, looks)? {
+    if !assign_all(table, &mut market, &mut search, scans)? {
         return Ok(None);
     }
     let Market {
@@ -76,7 +76,7 @@ fn propose_full(alloc: Global, table: &Table, looks: u64) -> Result<Option<Propo
 }
 
 /// Searches for a least assignment of a table, where an entry that equals `gap` is a gap. It scans some more than
-/// `looks` entries at most. Where that doesn't suffice, or there are fewer objects than persons, it returns None.
+/// `scans` entries at most. Where that doesn't suffice, or there are fewer objects than persons, it returns None.
 ///
 /// **The caller tries the proposal**, as nothing is proved of it. Where there is an assignment and costs are from -10^9
 /// to 10^9, it should be a least one without gaps. Its prices should be from 0 up, in costs of the table. At them no
@@ -96,10 +96,10 @@ pub fn propose(
     alloc: Global,
     table: &Table,
     gap: Option<i64>,
-    looks: u64,
+    scans: u64,
 ) -> Result<Option<Proposal>, AllocError> {
     let Some(gap) = gap else {
-        return propose_full(alloc, table, looks);
+        return propose_full(alloc, table, scans);
     };
     let costs = fill_gaps(alloc, table, gap)?;
     let filled = Table {
@@ -107,5 +107,5 @@ pub fn propose(
         costs: costs.as_slice(),
         ..*table
     };
-    propose_full(alloc, &filled, looks)
+    propose_full(alloc, &filled, scans)
 }

@@ -18,12 +18,11 @@ use Rattle.auc_threads.specs.Taking.{Answer, calls_taken, letter_of, letters_in,
 use Rattle.auc_threads.specs.Counting.{Closes, Counted, Counts, CountsOn, EndsBy, GaveFirst, calls_closed, firsts_in, is_first}
 use Rattle.auc_threads.proofs.CallingLaws.{makes_as, makes_call, makes_none, makes_then}
 use Rattle.auc_threads.proofs.TakingLaws.{letters_append, taken_append, takes_append}
+use Rattle.auc_book.proofs.Settled.{one_if}
+use Rattle.auc_book.proofs.Lines.{not_true}
 
 firsts_append : (xs ys : List Letter) → firsts_in (xs ++ ys) ≡ firsts_in xs + firsts_in ys
 firsts_append xs ys = sum_by-append (λ x. cond (is_first x) 1 0) xs ys
-
-pub not_true : false ≡ true → ⊥
-not_true e = cc
 
 -- ---- closing
 
@@ -72,9 +71,6 @@ counts_none room persons h a e some = record {
   fewer = omega (arith, some, ap (λ (x : Counting). x.count) e);
   going = ap (λ (x : Counting). x.end) e;
 }
-
-abbrev one_if : Bool → ℕ
-one_if b = cond b 1 0
 
 -- a First counts, and no other letter does
 first_counts : (r : Answer) → GaveFirst r → firsts_in (letter_of r ++ []) ≡ 1

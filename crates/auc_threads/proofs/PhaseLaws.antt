@@ -38,14 +38,7 @@ use Rattle.auc_threads.specs.Taking.{letters_in, letters_taken}
 use Rattle.auc_threads.proofs.TakingLaws.{lines_tell, took_told}
 use Rattle.auc_threads.proofs.CountingLaws.{closed_told}
 use Rattle.auc_threads.proofs.PlacedLaws.{placed_at, placed_some, placed_weaker}
-
-All-front : {X : Type 0} (P : X → Type 0) (xs ys : List X) → All P (xs ++ ys) → All P xs
-All-front P [] ys all = All-nil P
-All-front {X} P (x ∷ xs) ys all = All-cons P x xs (All-head P x (xs ++ ys) all) (All-front P xs ys (All-tail P x (xs ++ ys) all))
-
-All-back : {X : Type 0} (P : X → Type 0) (xs ys : List X) → All P (xs ++ ys) → All P ys
-All-back P [] ys all = all
-All-back {X} P (x ∷ xs) ys all = All-back P xs ys (All-tail P x (xs ++ ys) all)
+use Rattle.auc_book.proofs.Seats.{All-front, All-back}
 
 -- the shard at a place owns the objects of that remainder
 pub owns_at : {X : Type 0} (f : X → Objects) (shards objects : ℕ) (xs : List X) (q j : ℕ) (x : X) → Placed (λ k w. IsOwnShard shards objects k (f w)) 0 xs → q < length xs → q ≡ j % shards

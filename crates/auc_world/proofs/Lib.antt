@@ -16,12 +16,12 @@ mod Bridge
 mod ChainLaws
 pub mod ListLaws
 mod Distinct
-mod AloneMails
-mod AloneSales
-mod AloneHearing
-mod AloneCounting
-mod AloneLaws
-mod AloneSteps
-mod AloneStops
-mod AlonePhase
-mod AloneEnds
+mod SingleMails
+mod SingleSales
+mod SingleHearing
+mod SingleCounting
+mod SingleLaws
+mod SingleSteps
+mod SingleStops
+mod SinglePhase
+mod SingleEnds

@@ -7,6 +7,6 @@ pub mod Chain
 pub mod Mails
 pub mod Posting
 pub mod Lists
-pub mod Alone
+pub mod SingleState
 pub mod Lots
-pub mod AlonePhase
+pub mod SinglePhase

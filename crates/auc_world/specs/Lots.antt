@@ -1,8 +1,8 @@
 -- The packed form of an object in a phase with one shard of each kind: its price and its holder.
 use Rattle.std.specs.Prelude.{ℕ, ◌==◌, if◌then◌else◌, ℤ, Option, Some, None}
 use Rattle.auc_letters.specs.declared.state.Held.{Held}
-use Rattle.auc_world.specs.declared.alone.lot.Lot.{Lot}
-use Rattle.auc_world.specs.Alone.{nobody}
+use Rattle.auc_world.specs.declared.single_shard.lot.Lot.{Lot}
+use Rattle.auc_world.specs.SingleState.{nobody}
 
 abbrev pub price_in : Lot → ℤ
 price_in l = l.price

@@ -10,11 +10,11 @@
 //! holders or makes an answer does.
 #![tactic(auto)]
 
-mod alone;
 pub mod laws;
 mod making;
 mod playing;
 mod post_office;
+mod single_shard;
 mod solving;
 mod world;
 

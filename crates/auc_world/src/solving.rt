@@ -12,9 +12,9 @@ ghost use Rattle.auc_world.specs.Chain.{IsOfRun};
 ghost use Rattle.auc_world.specs.Lists.{MayKeep, StayKept};
 ghost use Rattle.auc_world.specs.Phases.{ComesOf};
 
-use crate::alone::playing::play_alone;
-use crate::alone::task::may_play_alone;
 use crate::making::new_bidders;
+use crate::single_shard::playing::play_single_shard;
+use crate::single_shard::task::may_play_single_shard;
 use crate::world::World;
 use auc_answers::finish::{bracket, optimal, stop_of};
 use auc_answers::{Answer, Gathered, Guard, Prepared, prepare};
@@ -91,8 +91,8 @@ fn play_phase(
     ensures comes { IfOk result (ComesOf rows.now limits.now prices.now eps) }
     ensures kept { IfOk result (StayKept rows.now limits.now.shards bidders.new.items) }
 {
-    if may_play_alone(limits) {
-        return play_alone(alloc, rows, limits, prices, eps, bidders);
+    if may_play_single_shard(limits) {
+        return play_single_shard(alloc, rows, limits, prices, eps, bidders);
     }
     play_world(alloc, rows, limits, prices, eps, bidders)
 }

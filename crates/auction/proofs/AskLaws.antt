@@ -194,7 +194,7 @@ module _ (values : Text → Option Text) (workers bids audit objects : ℕ) (are
   not_wrongly h DirectThreads wrong = h.direct wrong.direct wrong.threads
   not_wrongly h WatchAlone wrong = h.watch wrong.direct wrong.watch
 
-  -- the solver in one hand with threads is at fault for that
+  -- the direct solver with threads is at fault for that
   wants_threads : is_direct values ≡ true → (e : WordsError) → AskWrongly values e → e ≡ DirectThreads
   wants_threads is Usage wrong = absurd (wrong workers bids audit objects are)
   wants_threads is AuditAlone wrong = let k = sym is ∙ wrong.direct in absurd cc

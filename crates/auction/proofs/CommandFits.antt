@@ -294,7 +294,7 @@ plain_check words file (Some cert) h = (
 pub plain_check_fits : (words : List Text) (file : Text) (cert : Option Text) → AreCheck words file cert → Fits words (codes "check") (both_named file cert)
 plain_check_fits words file cert h = check_fits words (both_named file cert) (plain_check words file cert h)
 
--- ---- examples: a solve with FILE between two options, one in a word and one in two; one in one hand, with the flag between an option and FILE; and a check with the option
+-- ---- examples: a solve with FILE between two options, one in a word and one in two; one of a direct solve, with the flag between an option and FILE; and a check with the option
 -- between FILE and CERT
 
 example_given : List (Text × Text)

@@ -26,7 +26,7 @@ abbrev pub IsFromObjects : Result Words WordsError → Type 0
 IsFromObjects (Ok w) = ⊥
 IsFromObjects (Err e) = (e ≡ FromObjects) ⊎ (e ≡ NoMemory)
 
--- the words ask for the solver in one hand and for threads, or for a trail, unless memory ran out
+-- the words ask for the direct solver and for threads, or for a trail, unless memory ran out
 abbrev pub IsDirectThreads : Result Words WordsError → Type 0
 IsDirectThreads (Ok w) = ⊥
 IsDirectThreads (Err e) = (e ≡ DirectThreads) ⊎ (e ≡ NoMemory)

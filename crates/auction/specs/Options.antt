@@ -50,7 +50,7 @@ pub record IsWatchedBy (values : List ℕ → Option (List ℕ)) (watching : Wat
 abbrev pub HasBoth : (List ℕ → Option (List ℕ)) → Type 0
 HasBoth values = (is_some (values (codes "from")) ≡ true) × (is_some (values (codes "objects")) ≡ true)
 
--- the solver in one hand is asked for
+-- the direct solver is asked for
 abbrev pub is_direct : (List ℕ → Option (List ℕ)) → Bool
 is_direct values = is_some (values (codes "direct"))
 
@@ -62,7 +62,7 @@ HasThreads values = (is_some (values (codes "workers")) ≡ true) ⊎ (is_some (
 abbrev pub HasWatch : (List ℕ → Option (List ℕ)) → Type 0
 HasWatch values = (is_some (values (codes "seconds")) ≡ true) ⊎ (is_some (values (codes "progress")) ≡ true)
 
--- What goes together: the solver in one hand has no threads and no trail; the other one has a trail only where there
+-- What goes together: the direct solver has no threads and no trail; the other one has a trail only where there
 -- are threads, starts from a certificate only without a number of objects, and isn't watched.
 pub record GoTogether (values : List ℕ → Option (List ℕ)) (workers audit : ℕ) : Type 0 where
   pub direct : is_direct values ≡ true → ¬ HasThreads values
@@ -70,7 +70,7 @@ pub record GoTogether (values : List ℕ → Option (List ℕ)) (workers audit :
   pub start : is_direct values ≡ false → ¬ HasBoth values
   pub watch : is_direct values ≡ false → ¬ HasWatch values
 
--- whether they go together, or why not, where a fault of a solve in one hand is told alone, and a trail before a start,
+-- whether they go together, or why not, where a fault of a direct solve is told alone, and a trail before a start,
 -- and that before a watch
 abbrev pub AreTogether : (List ℕ → Option (List ℕ)) → ℕ → ℕ → Result ⊤ WordsError → Type 0
 AreTogether values workers audit (Ok _) = GoTogether values workers audit
@@ -89,7 +89,7 @@ AsksToSolve values job =
     × GoTogether values workers audit
     × (job ≡ Solve workers bids audit objects (is_some (values (codes "from"))) (is_direct values))
 
--- all numbers are in their ranges, and these don't go together: the solver in one hand, and threads or a trail
+-- all numbers are in their ranges, and these don't go together: the direct solver, and threads or a trail
 pub record WantThreads (values : List ℕ → Option (List ℕ)) : Type 0 where
   pub workers : ℕ
   pub bids : ℕ

@@ -2,7 +2,7 @@
 
 use auc_run::Job;
 
-/// How a solve in one hand is watched.
+/// How a direct solve is watched.
 #[derive(Clone, Copy, Debug, PartialEq, Eq)]
 pub struct Watching {
     /// How many seconds the program may take until it ends the search: to 1,000,000, and 0 for any number.

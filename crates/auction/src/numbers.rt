@@ -81,7 +81,7 @@ fn watching_of(matches: &ArgMatches<'_>) -> Result<Watching, WordsError>
     })
 }
 
-/// Looks whether the options go together: a solve in one hand has no threads and no trail; another one has a trail only
+/// Looks whether the options go together: a direct solve has no threads and no trail; another one has a trail only
 /// with threads, starts from a certificate only without a number of objects, and isn't watched.
 fn look_together(
     matches: &ArgMatches<'_>,

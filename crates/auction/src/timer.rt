@@ -1,4 +1,4 @@
-//! The watch over a solve in one hand: it ends the search when its time is up, and tells how far it has come.
+//! The watch over a direct solve: it ends the search when its time is up, and tells how far it has come.
 
 ghost use Rattle.std.specs.Prelude.{◌≡◌, false, true};
 

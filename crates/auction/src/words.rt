@@ -130,7 +130,7 @@ fn words_of(alloc: Global, matches: &ArgMatches<'_>) -> Result<Words, WordsError
 /// # Errors
 ///
 /// [`WordsError::Usage`] where the words are no job, or a number is out of its range; then
-/// [`WordsError::DirectThreads`] where a solve in one hand is to have threads or a trail; then, of another one,
+/// [`WordsError::DirectThreads`] where a direct solve is to have threads or a trail; then, of another one,
 /// [`WordsError::AuditAlone`] where it has no threads and is to keep a trail; then [`WordsError::FromObjects`] where it
 /// is to start from a certificate and has a number of objects; then [`WordsError::WatchAlone`] where it is to be
 /// watched.
@@ -161,7 +161,7 @@ pub fn read_words(alloc: Global, words: &[String]) -> Result<Words, WordsError>
     ensures solve { (file : Option (List ℕ)) → AreJob (codes "solve") (map string_bytes words.now) file
         → AsksFor (Job.Solve 0 100000000 0 0 false false) result file None }
     // A solve with options, in any order, is read as the solve with their numbers and the usual ones of the others,
-    // from the certificate that they name, and in one hand where they say so, unless memory runs out.
+    // from the certificate that they name, and directly where they say so, unless memory runs out.
     ensures options { (given : List (List ℕ × List ℕ)) (workers bids audit objects : ℕ)
         → AreSolve (map string_bytes words.now) given → AreNumbers (value_in given) workers bids audit objects
         → GoTogether (value_in given) workers audit
@@ -173,7 +173,7 @@ pub fn read_words(alloc: Global, words: &[String]) -> Result<Words, WordsError>
     ensures wrong_objects { (given : List (List ℕ × List ℕ)) → AreCheckOf (map string_bytes words.now) given
         ⊎ AreHallOf (map string_bytes words.now) given
         → ((objects : ℕ) → ¬ HasObjects (value_in given (codes "objects")) objects) → IsUsage result }
-    // A solve in one hand with threads or a trail is a fault of its own, unless memory runs out.
+    // A direct solve with threads or a trail is a fault of its own, unless memory runs out.
     ensures direct_threads { (given : List (List ℕ × List ℕ)) (workers bids audit objects : ℕ)
         → AreSolve (map string_bytes words.now) given → AreNumbers (value_in given) workers bids audit objects
         → is_direct (value_in given) ≡ true → HasThreads (value_in given) → IsDirectThreads result }

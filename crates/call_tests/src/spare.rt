@@ -56,7 +56,7 @@ struct Behind {
     found: Found,
 }
 
-/// Solves them in one hand.
+/// Solves them directly.
 fn solved(rt: &HostRuntime, start: &[i64], bids: u64) -> Behind {
     solved_of(rt, &outlets(), start, bids)
 }

@@ -10,11 +10,11 @@ mod certificates;
 #[cfg(test)]
 mod checks;
 #[cfg(test)]
+mod direct;
+#[cfg(test)]
 mod fakes;
 #[cfg(test)]
 mod halls;
-#[cfg(test)]
-mod in_one_hand;
 #[cfg(test)]
 mod mails;
 #[cfg(test)]

@@ -23,8 +23,8 @@ use auc_dense::{GivenTable, solve_table_call};
 use auc_graph::Arc;
 use std::alloc::Global;
 
-/// Solves the problem of so many persons, so many objects (0: as many as persons) and these arcs, from nothing where
-/// `start` is empty, else from its prices, in one hand: see [`auc_call::solve_call`].
+/// Solves directly the problem of so many persons, so many objects (0: as many as persons) and these arcs, from nothing
+/// where `start` is empty, else from its prices: see [`auc_call::solve_call`].
 #[unsafe(no_mangle)]
 pub extern "C" fn sigdorf_solve(
     alloc: Global,

@@ -8,10 +8,10 @@ ghost use Rattle.auc_persons.specs.Priced.{KeptAt, IsScanOf};
 use crate::bidder::bound::{BLOCK, Blocked, Bound, NO_BOUND};
 use crate::bidder::lists::{has_list, lists_wanted};
 use crate::bidder::lists_by_blocks::scan_and_list;
+use crate::bidder::method::LONG_ROW;
 use crate::bidder::person_row::PersonRow;
 use crate::bidder::scan::Scan;
 use crate::bidder::shortlist::Shortlist;
-use crate::bidder::way::LONG;
 use auc_graph::Rows;
 use std::alloc::{AllocError, Global};
 use std::marker::Model;
@@ -44,7 +44,7 @@ fn blocks_of(arcs: usize) -> usize
     ensures each { (k : ℕ) → k < result → 16 * k < arcs }
     ensures all { (k : ℕ) → 256 < arcs → 16 * k < arcs → k < result }
 {
-    if arcs <= LONG {
+    if arcs <= LONG_ROW {
         return 0;
     }
     (arcs - 1) / BLOCK + 1
@@ -116,7 +116,7 @@ impl Blocks {
         }
         let blocked = self.persons[place];
         let arcs = own.rows.row(own.person).len();
-        if blocked.person != own.person || blocked.arcs as usize != arcs || arcs <= LONG {
+        if blocked.person != own.person || blocked.arcs as usize != arcs || arcs <= LONG_ROW {
             return None;
         }
         let list = &mut lists[place];

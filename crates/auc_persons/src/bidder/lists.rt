@@ -5,23 +5,23 @@ ghost use Rattle.auc_persons.specs.Candidates.{Kept};
 ghost use Rattle.auc_persons.specs.Priced.{KeptAt, IsScanOf};
 
 use crate::bidder::amount::scaled;
+use crate::bidder::method::SHORT_ROW;
 use crate::bidder::person_row::PersonRow;
 use crate::bidder::priced_row::PricedRow;
 use crate::bidder::scan::{Scan, scale_of};
 use crate::bidder::shortlist::Shortlist;
-use crate::bidder::way::SHORT;
 use auc_graph::Rows;
 use std::alloc::{AllocError, Global};
 
 /// The number of arcs that a list should have.
-const WANTED: i64 = 11;
+const WANTED_CANDIDATES: i64 = 11;
 
 /// Whether a person is of shard number `shard` of `of`, and has a list.
 pub(crate) fn has_list(rows: &Rows, person: u32, shard: u32, of: u32) -> bool
     requires known { person < length rows.now.rows }
     requires shard { shard < of }
 {
-    person % of == shard && rows.row(person).len() > SHORT
+    person % of == shard && rows.row(person).len() > SHORT_ROW
 }
 
 /// The number of persons of shard number `shard` of `of` who have lists.
@@ -42,7 +42,7 @@ fn first_delta(rows: &Rows, person: u32) -> i64
     requires { person < length rows.now.rows }
 {
     let arcs = rows.row(person).len() as i64;
-    scaled(scale_of(rows.persons()), rows.cost_spread()) / (arcs + 1) * WANTED
+    scaled(scale_of(rows.persons()), rows.cost_spread()) / (arcs + 1) * WANTED_CANDIDATES
 }
 
 /// Empty lists for the persons of shard number `shard` of `of`.

@@ -13,11 +13,11 @@ ghost use Rattle.auc_persons.specs.Priced.{IsScanOf, arcs_of, value_in, value_to
 use crate::bidder::bound::{BLOCK, Blocked, Bound};
 use crate::bidder::bounded::{next_within, scan_blocks};
 use crate::bidder::least::least_of;
+use crate::bidder::method::VERY_LONG_ROW;
 use crate::bidder::person_row::PersonRow;
 use crate::bidder::priced_row::PricedRow;
 use crate::bidder::scan::Scan;
 use crate::bidder::shortlist::Shortlist;
-use crate::bidder::way::VERY_LONG;
 use auc_graph::Rows;
 use std::snapshot::Snapshot;
 
@@ -111,7 +111,7 @@ fn list_anew(
     ensures right { AreRight made.now.value own.entry.rows.now own.entry.copies.now bounds.new }
     ensures same { AreOfSame bounds.old bounds.new }
 {
-    if blocked.arcs as usize <= VERY_LONG {
+    if blocked.arcs as usize <= VERY_LONG_ROW {
         return;
     }
     if second == i64::MAX {

@@ -13,17 +13,17 @@ ghost use Rattle.auc_persons.specs.Search.{IsFound};
 
 mod making;
 
+use crate::bidder::method::VERY_LONG_ROW;
 use crate::bidder::priced_row::PricedRow;
 use crate::bidder::scan::Scan;
 use crate::bidder::search::scan_from;
 use crate::bidder::shortlist::making::delta_within;
 use crate::bidder::sorted_row::SortedRow;
-use crate::bidder::way::VERY_LONG;
 use auc_graph::RowArc;
 use std::marker::Model;
 
 /// The greatest number of arcs of a list.
-pub(crate) const ROOM: usize = 24;
+pub(crate) const LIST_CAPACITY: usize = 24;
 
 /// The candidates of one person.
 #[derive(Drop)]
@@ -31,7 +31,7 @@ pub(crate) struct Shortlist {
     bound: i64,
     // How far the next bound should be above the second-best value.
     delta: i64,
-    arcs: [RowArc; ROOM],
+    arcs: [RowArc; LIST_CAPACITY],
     person: u32,
     count: u8,
     // Whether the arcs are in rising order of objects, as those of a sorted row are.
@@ -63,7 +63,7 @@ impl Shortlist {
                 cost: 0,
                 object: 0,
                 arc: 0,
-            }; ROOM],
+            }; LIST_CAPACITY],
             person,
             count: 0,
             rises: true,
@@ -117,7 +117,7 @@ impl Shortlist {
     fn is_full(&self) -> bool
         ensures { result ≡ false → length self.now.arcs < 24 }
     {
-        self.count as usize == ROOM
+        self.count as usize == LIST_CAPACITY
     }
 
     /// Whether a pass over the list finds what one over the row would: no arc left out is as good as the best or better
@@ -163,7 +163,7 @@ impl Shortlist {
         ensures keeps { Keeps (value_in row.entry) row.entry.arcs.now self.new.arcs self.new.bound }
         ensures person { self.new.person ≡ self.old.person }
     {
-        if row.arcs.len() > VERY_LONG {
+        if row.arcs.len() > VERY_LONG_ROW {
             return None;
         }
         if second < i64::MAX {

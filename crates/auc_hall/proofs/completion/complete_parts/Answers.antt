@@ -21,7 +21,7 @@ loop-person-preserved-then-is_some c =
       seen = c.loop-person.invariant.seen;
       marks = c.loop-person.invariant.marks;
       grown = c.loop-person.invariant.grown;
-      looked = c.loop-person.invariant.looked;
+      scanned = c.loop-person.invariant.scanned;
     }
 
 found : (c : After-as_slice) → IsSearch c.args.rows.now c.loop-person.choice c.loop-person.holder c.as_slice.result.now c.search.new.seen
@@ -49,7 +49,7 @@ loop-person-preserved c =
       seen = c.in_ok-search.ensures.search.marks.size;
       marks = c.in_ok-search.ensures.search.marks.behind;
       grown = λ after x. c.loop-person.invariant.grown after (grown_by c.exchange.ensures.exchange x);
-      looked = c.search.ensures.looked ∙ c.loop-person.invariant.looked;
+      scanned = c.search.ensures.scanned ∙ c.loop-person.invariant.scanned;
     }
 
 pub returns-clause-matching : goal.returns-clause-matching
@@ -76,5 +76,5 @@ loop-person-init c = record {
   seen = c.requires.seen;
   marks = λ j h. absurd (both_ways (get_or c.args.seen.now j false) (c.requires.none j) h);
   grown = λ after x. x;
-  looked = c.requires.looked;
+  scanned = c.requires.scanned;
 }

@@ -12,5 +12,5 @@ invariant-loop-person l = record {
   seen : length l.seen ≡ l.rows.objects;
   marks : (j : ℕ) → WasSeen l.seen j → Reaches l.queue.items j;
   grown : (after : List (Option RowArc)) → IsGrown l.rows after l.choice → IsGrown l.rows after l.fn.choice;
-  looked : length l.looked ≡ length l.rows.rows;
+  scanned : length l.scanned ≡ length l.rows.rows;
 }

@@ -1,8 +1,9 @@
 use Rattle.std.proofs.Common.{◌≡◌, ◌<◌, length, List, [], ◌∷◌, ◌++◌, ap, ◌∙◌, arith}
 use Rattle.auc_hall.specs.declared.search.Reached.{Reached}
 use Rattle.auc_hall.proofs.SearchLaws.{starts, walked_more, last_way_out, at_most}
-use Rattle.auc_hall.proofs.QueueLaws.{first_stays, no_arc, first_only}
+use Rattle.auc_hall.proofs.QueueLaws.{first_stays, first_only}
 use Rattle.auc_hall.proofs.search.search.Goals as goal
+use Rattle.auc_hall.proofs.ProblemLaws.{no_arc}
 
 pub loop-at-init : goal.loop-at-init
 loop-at-init c =
@@ -11,7 +12,7 @@ loop-at-init c =
       search = starts c.args.rows.now c.args.choice.now c.args.holder.now c.push.new.self.items c.forget.new.seen c.args.start is c.requires.start c.requires.free (omega arith) c.forget.ensures.none;
       first = λ e h. (first_only c.args.start c.push.new.self.items is 0 e h).1;
       walked = λ m e lt h. absurd (omega arith);
-      looked = c.free_arc.ensures.looked;
+      scanned = c.free_arc.ensures.scanned;
     }
 
 pub returns-in-Some-clause-search : goal.returns-in-Some-clause-search
@@ -35,7 +36,7 @@ loop-at-preserved c =
       search = c.in_ok-found.ensures.search;
       first = first_stays c.loop-at.queue.items c.walk.new.queue.items c.args.start c.in_ok-found.ensures.grows (omega arith) c.loop-at.invariant.first;
       walked = walked_more c.args.rows.now c.loop-at.queue.items c.walk.new.queue.items c.loop-at.seen c.walk.new.seen c.loop-at.at c.in_ok-found.ensures.grows lt c.in_ok-found.ensures.kept c.loop-at.invariant.walked (rw c.in_default-2.is at c.in_ok-found.ensures.walked);
-      looked = c.walk.ensures.looked ∙ c.loop-at.invariant.looked;
+      scanned = c.walk.ensures.scanned ∙ c.loop-at.invariant.scanned;
     }
 
 pub loop-at-smaller : goal.loop-at-smaller

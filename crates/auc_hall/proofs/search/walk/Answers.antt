@@ -9,7 +9,7 @@ pub loop-arc-preserved-then-seen-object : goal.loop-arc-preserved-then-seen-obje
 loop-arc-preserved-then-seen-object c = record {
   walk = walk_past_row c.args.rows.now c.args._choice.now c.args.holder.now c.args.queue.now.items c.loop-arc.queue.items c.args.seen.now c.loop-arc.seen c.row-arc-items.result.now (row_of c.args.rows.now (get_or c.args.queue.now.items c.args.at blank).person) c.loop-arc.arc-index
       (the_row c.args.rows.now c.args.queue.now.items c.args.at c.index.result.now c.row-arc-items.result.now c.requires.at c.index.ensures c.row-arc-items.ensures.row) c.loop-arc.invariant.walk c.loop-arc-test.true c.if-seen-object.true;
-  looked = c.loop-arc.invariant.looked;
+  scanned = c.loop-arc.invariant.scanned;
 }
 
 pub returns-in-None-clause-found : goal.returns-in-None-clause-found
@@ -23,7 +23,7 @@ loop-arc-preserved c =
     record {
       walk = rw (c.in_ok-push-in-Some.ensures.items) (walk_on_row c.args.rows.now c.args._choice.now c.args.holder.now c.args.queue.now.items c.loop-arc.queue.items c.args.seen.now c.loop-arc.seen c.row-arc-items.result.now c.loop-arc.arc-index c.args.at c.in-Some.partner
           c.requires.matched c.requires.at (the_row c.args.rows.now c.args.queue.now.items c.args.at c.index.result.now c.row-arc-items.result.now c.requires.at c.index.ensures c.row-arc-items.ensures.row) c.loop-arc.invariant.walk c.loop-arc-test.true c.if-seen-object.false (omega (arith, within, c.loop-arc.invariant.walk.search.marks.size)) c.in-Some.is);
-      looked = c.free_arc.ensures.looked ∙ c.loop-arc.invariant.looked;
+      scanned = c.free_arc.ensures.scanned ∙ c.loop-arc.invariant.scanned;
     }
 
 pub returns-clause-walked : goal.returns-clause-walked

@@ -7,5 +7,5 @@ use Rattle.auc_hall.proofs.search.walk.Given as goal
 abbrev pub invariant-loop-arc : goal.invariant-loop-arc
 invariant-loop-arc l = record {
   walk : IsWalk l.rows l._choice l.holder l.fn.queue.items l.queue.items l.fn.seen l.seen (row_of l.rows (get_or l.fn.queue.items l.at blank).person) l.arc-index;
-  looked : length l.looked ≡ length l.fn.looked;
+  scanned : length l.scanned ≡ length l.fn.scanned;
 }

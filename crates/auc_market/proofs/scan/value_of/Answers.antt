@@ -4,8 +4,8 @@ use Rattle.std.proofs.lemmas.Int.{ints, to_z-of_z}
 use Rattle.std.proofs.lemmas.List.Elements.{All-get_or}
 use Rattle.auc_graph.specs.Dual.{price_at}
 use Rattle.auc_graph.specs.Price.{IsPrice}
-use Rattle.auc_market.proofs.Bounds.{price_fits, product_below, product_fits, value_fits, value_high, value_low}
 use Rattle.auc_market.proofs.scan.value_of.Goals as goal
+use Rattle.auc_graph.proofs.ValueBounds.{price_fits, product_below, product_fits, value_fits, value_high, value_low}
 
 wide : (z : ℤ) → neg_ℤ (pos (10 ^ 9)) ≤ℤ z → z ≤ℤ pos (10 ^ 9) → FitsSigned w64 z
 wide z low high = omega (arith, ints, low, high)

@@ -1,7 +1,7 @@
 use Rattle.std.proofs.Common.{arith, rules, w64}
 use Rattle.std.specs.Prelude.{FitsSigned, ◌-ℤ◌}
 use Rattle.std.proofs.lemmas.Int.{ints, to_z-of_z}
-use Rattle.auc_market.proofs.Ways.{slack_of}
+use Rattle.auc_market.proofs.Augmentations.{slack_of}
 use Rattle.auc_market.proofs.slack.is_slack.Goals as goal
 
 pub returns : goal.returns

@@ -9,9 +9,9 @@ use crate::bidder::priced_row::PricedRow;
 use crate::bidder::shortlist::Shortlist;
 
 /// With fewer arcs the next list should have more.
-const FEW: u32 = 8;
+const FEW_CANDIDATES: u32 = 8;
 /// With more arcs the next list should have fewer.
-const MANY: u32 = 14;
+const MANY_CANDIDATES: u32 = 14;
 /// The greatest distance of a bound above the second-best value.
 const MOST_DELTA: i64 = 1 << 60;
 /// A number from 1 to the greatest distance of a bound.
@@ -110,9 +110,9 @@ impl Shortlist {
         let delta = self.delta;
         if !fitted {
             self.delta = delta_within(delta / 4);
-        } else if self.count > MANY as u8 {
+        } else if self.count > MANY_CANDIDATES as u8 {
             self.delta = delta_within(delta - delta / 4);
-        } else if self.count < FEW as u8 {
+        } else if self.count < FEW_CANDIDATES as u8 {
             self.delta = delta_within(delta + delta / 2 + 1);
         }
     }

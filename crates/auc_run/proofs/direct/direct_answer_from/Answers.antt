@@ -1,6 +1,6 @@
 use Rattle.auc_direct.specs.Endings.{IsLimitedFrom}
 use Rattle.auc_run.specs.Solutions.{watched}
-use Rattle.auc_run.proofs.StartLaws.{answered, in_one_hand, limited_or}
+use Rattle.auc_run.proofs.StartLaws.{answered, direct_solve, limited_or}
 use Rattle.auc_run.proofs.direct.direct_answer_from.Goals as goal
 
 pub returns-clause-from : goal.returns-clause-from
@@ -12,4 +12,4 @@ returns-clause-from g c =
     let limit = rw c.as_slice-prices.ensures.value at c.in_ok-answer.ensures.limit in
     let limited = limited_or (g.V.Watch.has_stopped c.args.watch.now) watch.stopped answer (IsLimitedFrom started.problem n.bids started.prices.items answer) limit in
     answered watch n (g.R.Read.remaining c.args.reader.now) (g.Q.Read.remaining c.args.second.now) started answer (rw c.requires.direct c.in_ok-started.ensures.started)
-    (in_one_hand n.direct watch n started.problem started.prices.items answer c.requires.direct (c.in_ok-answer.ensures.is, (c.in_ok-answer.ensures.asked, limited)))
+    (direct_solve n.direct watch n started.problem started.prices.items answer c.requires.direct (c.in_ok-answer.ensures.is, (c.in_ok-answer.ensures.asked, limited)))

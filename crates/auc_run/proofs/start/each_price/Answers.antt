@@ -1,7 +1,7 @@
 use Rattle.std.proofs.Common.{◌≡◌, All, List, ℤ, rules, subst, sym}
 use Rattle.auc_claim.specs.Start.{IsStartPrice}
-use Rattle.auc_run.proofs.PriceLaws.{none_too_high}
 use Rattle.auc_run.proofs.start.each_price.Goals as goal
+use Rattle.auc_claim.proofs.StartLaws.{none_too_high}
 
 pub returns-clause-within : goal.returns-clause-within
 returns-clause-within c =

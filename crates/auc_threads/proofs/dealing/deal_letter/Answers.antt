@@ -5,8 +5,8 @@ use Rattle.auc_letters.specs.Award.{is_accepted}
 use Rattle.auc_objects.specs.Objects.{sale_of}
 use Rattle.auc_threads.specs.Dealing.{says}
 use Rattle.auc_threads.proofs.DealingLaws.{accepted_is, deals_bid, declined_is, said_accepted, said_declined}
-use Rattle.auc_threads.proofs.CountingLaws.{not_true}
 use Rattle.auc_threads.proofs.dealing.deal_letter.Goals as goal
+use Rattle.auc_book.proofs.Lines.{not_true}
 
 pub returns-then-is_accepted-clause-deals : goal.returns-then-is_accepted-clause-deals
 returns-then-is_accepted-clause-deals c =

@@ -3,7 +3,7 @@ use Rattle.std.specs.Prelude.{FitsSigned}
 use Rattle.std.proofs.lemmas.Int.{ints, to_z-of_z}
 use Rattle.std.proofs.lemmas.List.{get_or_read, length-set}
 use Rattle.auc_market.specs.declared.search.Rise.{Rise}
-use Rattle.auc_market.proofs.Ways.{noted_more}
+use Rattle.auc_market.proofs.Augmentations.{noted_more}
 use Rattle.auc_market.proofs.holdings.Holdings.may_rise.Goals as goal
 
 abbrev blank : Rise

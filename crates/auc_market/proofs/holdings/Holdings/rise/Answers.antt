@@ -1,7 +1,7 @@
 use Rattle.std.proofs.Common.{◌≡◌, refl, w64, ◌∙◌}
 use Rattle.std.specs.Prelude.{FitsSigned}
 use Rattle.std.proofs.lemmas.Int.{to_z-of_z}
-use Rattle.auc_market.proofs.Ways.{higher_same, raised_any, raised_stands}
+use Rattle.auc_market.proofs.Augmentations.{higher_same, raised_any, raised_stands}
 use Rattle.auc_market.proofs.holdings.Holdings.rise.Goals as goal
 use Rattle.auc_market.proofs.holdings.Holdings.rise.Goals.{After-take_back}
 

@@ -7,9 +7,9 @@ use Rattle.auc_graph.specs.Price.{IsPrice}
 use Rattle.auc_rows.specs.declared.arc.ShortArc.{ShortArc}
 use Rattle.auc_rows.specs.Rows.{flat_row_of}
 use Rattle.auc_market.specs.Scan.{no_arc}
-use Rattle.auc_market.proofs.Bounds.{price_fits}
 use Rattle.auc_market.proofs.StartLaws.{none_after, object_in, seated_after}
 use Rattle.auc_market.proofs.holdings.Holdings.seat.Goals as goal
+use Rattle.auc_graph.proofs.ValueBounds.{price_fits}
 
 abbrev arc_of : goal.After-award → ShortArc
 arc_of c = get_or c.row-row.result.now c.args.place no_arc

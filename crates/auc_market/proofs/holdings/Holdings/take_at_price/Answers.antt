@@ -5,7 +5,7 @@ use Rattle.std.proofs.lemmas.List.{get_or_read}
 use Rattle.std.proofs.lemmas.List.Elements.{Contains-get_or}
 use Rattle.auc_rows.specs.declared.arc.ShortArc.{ShortArc}
 use Rattle.auc_market.specs.Scan.{no_arc}
-use Rattle.auc_market.proofs.Ways.{way_at_price}
+use Rattle.auc_market.proofs.Augmentations.{augmented_at_price}
 use Rattle.auc_market.proofs.holdings.Holdings.take_at_price.Goals as goal
 
 pub is_slack-requires-clause-listed : goal.is_slack-requires-clause-listed
@@ -23,5 +23,5 @@ returns c =
     let many = c.requires.stands.prices_are in
     let read = get_or_read c.args.self.now.prices.items arc.object c.index-amount.result.now (omega (arith, below, many)) c.index-amount.ensures (pos 0) in
     let prices : c.award.new.self.prices.items ≡ set c.args.self.now.prices.items arc.object c.index-amount.result.now = simp to_z-of_z at c.award.ensures.prices in
-    way_at_price c.args.rows.now c.args.eps c.args.person c.args.self.now.prices.items c.award.new.self.prices.items c.args.self.now.holders.items c.award.new.self.holders.items c.args.self.now.owns.items c.award.new.self.owns.items c.award.result arc c.index-amount.result.now
+    augmented_at_price c.args.rows.now c.args.eps c.args.person c.args.self.now.prices.items c.award.new.self.prices.items c.args.self.now.holders.items c.award.new.self.holders.items c.args.self.now.owns.items c.award.new.self.owns.items c.award.result arc c.index-amount.result.now
     c.requires.sound c.requires.stands c.requires.person c.requires.none read slack prices c.award.ensures.holders c.award.ensures.owns c.award.ensures.earlier

@@ -3,7 +3,7 @@ use Rattle.std.specs.Prelude.{FitsSigned}
 use Rattle.std.proofs.lemmas.Int.{to_z-of_z}
 use Rattle.std.proofs.lemmas.List.{get_or_default}
 use Rattle.auc_market.specs.declared.search.Rise.{Rise}
-use Rattle.auc_market.proofs.Ways.{back_all, back_more}
+use Rattle.auc_market.proofs.Augmentations.{back_all, back_more}
 use Rattle.auc_market.proofs.holdings.Holdings.take_back.Goals as goal
 
 abbrev blank : Rise

@@ -11,8 +11,8 @@ use Rattle.auc_market.proofs.lists.Lists.best.Goals as goal
 short_at : (r : FlatTable) (prices : List ℤ) (lists : List Shortlist) (i : ℕ) (l : Shortlist) → i < length lists → l ≡ get_or lists i l → IsFlatTable r → length prices ≡ r.objects → Kept r prices lists → All (IsShort (length prices)) l.arcs.items
 short_at r prices lists i l lt is sound many kept = arcs_short (short_value (scale_in r) prices) (length prices) (flat_row_of r i) l (rw many (sound.each i)) (says_at r prices lists i l lt is kept)
 
-pub told-requires : goal.told-requires
-told-requires c =
+pub listed_best-requires : goal.listed_best-requires
+listed_best-requires c =
     let lt : c.args.person < length c.args.self.now.lists.items = (let p = c.if-place-len.false in let l = c.len.ensures in omega (arith, p, l)) in
     let e = c.requires.scale in
     let m = c.row-row.ensures.sound.most in
@@ -26,8 +26,8 @@ pub returns-in-Some-clause-best : goal.returns-in-Some-clause-best
 returns-in-Some-clause-best c =
     let f1 : FitsSigned w64 c.args.scale = c.ranges.scale in
     let lt : c.args.person < length c.args.self.now.lists.items = (let p = c.if-place-len.false in let l = c.len.ensures in omega (arith, p, l)) in
-    let told = rw c.requires.scale at (simp to_z-of_z at c.in-Some.ensures) in
-    rw c.requires.scale (told (flat_row_of c.args.rows.now c.args.person) (says_at c.args.rows.now c.args.prices.now c.args.self.now.lists.items c.args.person c.index.result.now lt c.index.ensures c.requires.kept))
+    let listed_best = rw c.requires.scale at (simp to_z-of_z at c.in-Some.ensures) in
+    rw c.requires.scale (listed_best (flat_row_of c.args.rows.now c.args.person) (says_at c.args.rows.now c.args.prices.now c.args.self.now.lists.items c.args.person c.index.result.now lt c.index.ensures c.requires.kept))
 
 pub best_anew-requires-clause-arcs : goal.best_anew-requires-clause-arcs
 best_anew-requires-clause-arcs c =

@@ -12,10 +12,10 @@ returns-then-person-clause-spends c =
 
 pub returns-then-person-clause-chain : goal.returns-then-person-clause-chain
 returns-then-person-clause-chain c = λ n le h. (
-    let way = c.in_ok-person.ensures.moved.way in
+    let augmented = c.in_ok-person.ensures.moved.augmented in
     let few = c.law.ensures.sound.most in
     let table = ap (λ (r : FlatTable). length r.rows) (returns-then-person-clause-spends c).table in
-    all_have n c.freed_by.new.self.owns c.in_ok-person.person NOBODY c.if-person.true refl (omega (arith, le, few, table)) (way.but n NOBODY (c.in-Some.ensures.bid.awarded.but n NOBODY (c.loop-left.invariant.but n h)))
+    all_have n c.freed_by.new.self.owns c.in_ok-person.person NOBODY c.if-person.true refl (omega (arith, le, few, table)) (augmented.but n NOBODY (c.in-Some.ensures.bid.awarded.but n NOBODY (c.loop-left.invariant.but n h)))
     )
 
 pub loop-left-preserved : goal.loop-left-preserved
@@ -24,9 +24,9 @@ loop-left-preserved c =
     let bid = c.in-Some.ensures.bid in
     let t = c.loop-left-test.true in
     record {
-      free = record { known = rw move.table (move.way.below c.if-person.false); none = move.way.none };
+      free = record { known = rw move.table (move.augmented.below c.if-person.false); none = move.augmented.none };
       spends = spends_more c.args.self.now c.loop-left.self c.bid.new.self c.freed_by.new.self c.args.left.now c.loop-left.left (c.loop-left.left - 1) c.loop-left.person c.in-Some.displaced c.in_ok-person.person c.loop-left.invariant.spends bid move (omega (arith, t));
-      but = λ n h. move.way.but n NOBODY (bid.awarded.but n NOBODY (c.loop-left.invariant.but n h));
+      but = λ n h. move.augmented.but n NOBODY (bid.awarded.but n NOBODY (c.loop-left.invariant.but n h));
     }
 
 pub returns-in_default-clause-spends : goal.returns-in_default-clause-spends

@@ -60,5 +60,5 @@ returns-clause-refined c =
     let b : State = state mid.prices.items mid.holders.items mid.owns.items in
     rw (← c.self.view_is) (record { table = refl; refined = b; is = record { owns = refined.owns; risen = refined.risen }; after = inl refl; risen = refined.risen })
 
-pub returns-then-looks-eq0-clause-refined : goal.returns-then-looks-eq0-clause-refined
-returns-then-looks-eq0-clause-refined c = no_refinement c.args.self.now
+pub returns-then-scans-eq0-clause-refined : goal.returns-then-scans-eq0-clause-refined
+returns-then-scans-eq0-clause-refined c = no_refinement c.args.self.now

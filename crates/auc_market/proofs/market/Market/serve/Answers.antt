@@ -17,7 +17,7 @@ pub returns-then-is_over-clause-served : goal.returns-then-is_over-clause-served
 returns-then-is_over-clause-served c =
     let over = c.if-is_over.ensures.yes refl in
     let owns = c.freed_by.new.self.owns in
-    let h = c.in_ok-freed.ensures.moved.way.but c.loop-left.fresh c.loop-left.other (c.in-Some.ensures.bid.awarded.but c.loop-left.fresh c.loop-left.other c.loop-left.invariant.have) in
+    let h = c.in_ok-freed.ensures.moved.augmented.but c.loop-left.fresh c.loop-left.other (c.in-Some.ensures.bid.awarded.but c.loop-left.fresh c.loop-left.other c.loop-left.invariant.have) in
     (rw (returns-then-is_over-clause-spends c).table c.loop-left.invariant.later, subst (λ (n : ℕ). HaveAllBut n owns NOBODY c.loop-left.other) over.1 (subst (λ (p : ℕ). HaveAllBut c.loop-left.fresh owns p c.loop-left.other) over.0 h))
 
 pub bid-requires : goal.bid-requires
@@ -41,12 +41,12 @@ free_from-fresh-requires-in-loop-left-clause-until c = rw (spends_here c).table 
 turned_have : (c : After-turn-next) → HaveAllBut c.turn-next.result.1 c.freed_by.new.self.owns c.loop-left.other c.turn-next.result.0
 turned_have c =
     let before = c.loop-left.invariant in
-    let way = c.in_ok-freed.ensures.moved.way in
+    let augmented = c.in_ok-freed.ensures.moved.augmented in
     let a = c.in-Some.ensures.bid.awarded in
-    let free : c.loop-left.fresh < c.args.until → (own_at c.freed_by.new.self.owns c.loop-left.fresh).object ≡ NOBODY = λ lt. (way.but 0 c.loop-left.fresh (a.but 0 c.loop-left.fresh (two_free c.loop-left.self.owns c.loop-left.person c.loop-left.fresh before.have.none (before.free lt) (λ e. (before.neither lt).0 (rw e refl))))).waits in
+    let free : c.loop-left.fresh < c.args.until → (own_at c.freed_by.new.self.owns c.loop-left.fresh).object ≡ NOBODY = λ lt. (augmented.but 0 c.loop-left.fresh (a.but 0 c.loop-left.fresh (two_free c.loop-left.self.owns c.loop-left.person c.loop-left.fresh before.have.none (before.free lt) (λ e. (before.neither lt).0 (rw e refl))))).waits in
     let most = c.law.ensures.sound.most in
     let few = c.requires.until in
-    turn_have c.freed_by.new.self.owns c.in_ok-freed.freed c.loop-left.other c.loop-left.fresh c.turn-next.result.0 c.turn-next.result.1 c.args.until (turned c) (omega (arith, few, most)) before.most (c.if-is_over.ensures.no refl) free (λ lt. (before.neither lt).1) (way.but c.loop-left.fresh c.loop-left.other (a.but c.loop-left.fresh c.loop-left.other before.have))
+    turn_have c.freed_by.new.self.owns c.in_ok-freed.freed c.loop-left.other c.loop-left.fresh c.turn-next.result.0 c.turn-next.result.1 c.args.until (turned c) (omega (arith, few, most)) before.most (c.if-is_over.ensures.no refl) free (λ lt. (before.neither lt).1) (augmented.but c.loop-left.fresh c.loop-left.other (a.but c.loop-left.fresh c.loop-left.other before.have))
 
 pub loop-left-preserved : goal.loop-left-preserved
 loop-left-preserved c =
@@ -56,7 +56,7 @@ loop-left-preserved c =
     let found = c.free_from-fresh-in-loop-left.ensures in
     let turn : IsTurn c.in_ok-freed.freed c.loop-left.fresh c.turn-next.result.0 c.turn-next.result.1 = record { freed_is = c.turn-next.ensures.freed; fresh_is = c.turn-next.ensures.fresh } in
     let spends = spends_here c.before in
-    let below : c.in_ok-freed.freed ≢ NOBODY → c.in_ok-freed.freed < length c.args.self.now.table.rows = λ some. (let l = move.way.below some in let e = ap (λ (r : FlatTable). length r.rows) (bid.table ∙ before.spends.table) in omega (arith, l, e)) in
+    let below : c.in_ok-freed.freed ≢ NOBODY → c.in_ok-freed.freed < length c.args.self.now.table.rows = λ some. (let l = move.augmented.below some in let e = ap (λ (r : FlatTable). length r.rows) (bid.table ∙ before.spends.table) in omega (arith, l, e)) in
     let later = turn_below c.in_ok-freed.freed c.loop-left.fresh c.turn-next.result.0 c.turn-next.result.1 c.args.until (length c.args.self.now.table.rows) turn before.most c.requires.until (c.if-is_over.ensures.no refl) below in
     record {
       known = before.later;

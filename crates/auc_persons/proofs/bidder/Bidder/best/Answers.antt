@@ -7,5 +7,5 @@ use Rattle.auc_persons.proofs.bidder.Bidder.best.Goals as goal
 pub best-found-requires : goal.best-found-requires
 best-found-requires c =
     let P = KeepsListed c.args.own.rows.now c.args.own.copies.now in
-    let kept = All-same P (c.self.inside.lists.items ++ (c.self.inside.blocks ++ c.self.inside.ways)) c.args.self.now c.self.view_is c.requires.kept in
-    record { kept = behind P c.self.inside.blocks c.self.inside.ways (behind P c.self.inside.lists.items (c.self.inside.blocks ++ c.self.inside.ways) kept) }
+    let kept = All-same P (c.self.inside.lists.items ++ (c.self.inside.blocks ++ c.self.inside.methods)) c.args.self.now c.self.view_is c.requires.kept in
+    record { kept = behind P c.self.inside.blocks c.self.inside.methods (behind P c.self.inside.lists.items (c.self.inside.blocks ++ c.self.inside.methods) kept) }

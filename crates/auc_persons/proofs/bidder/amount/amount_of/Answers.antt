@@ -5,9 +5,9 @@ use Rattle.std.proofs.lemmas.List.Elements.{All-get_or, All-contains}
 use Rattle.auc_graph.specs.Table.{IsRowArc}
 use Rattle.auc_graph.specs.Price.{IsPrice}
 use Rattle.auc_persons.specs.Scan.{copy_in}
-use Rattle.auc_persons.proofs.Bounds.{price_fits}
 use Rattle.auc_persons.proofs.Amounts.{next_bid, only_bid}
 use Rattle.auc_persons.proofs.bidder.amount.amount_of.Goals as goal
+use Rattle.auc_graph.proofs.ValueBounds.{price_fits}
 
 pub next_amount-requires-clause-price : goal.next_amount-requires-clause-price
 next_amount-requires-clause-price c =

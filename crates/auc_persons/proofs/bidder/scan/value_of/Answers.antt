@@ -1,8 +1,8 @@
 use Rattle.std.proofs.Common.{ℤ, pos, ◌≡◌, ◌^◌, ◌≤ℤ◌, arith, refl, w32, w64}
 use Rattle.std.specs.Prelude.{◌+ℤ◌, ◌*ℤ◌, FitsSigned, neg_ℤ}
 use Rattle.std.proofs.lemmas.Int.{ints, to_z-of_z}
-use Rattle.auc_persons.proofs.Bounds.{product_below, product_fits, value_fits, value_high, value_low}
 use Rattle.auc_persons.proofs.bidder.scan.value_of.Goals as goal
+use Rattle.auc_graph.proofs.ValueBounds.{product_below, product_fits, value_fits, value_high, value_low}
 
 wide : (z : ℤ) → neg_ℤ (pos (10 ^ 9)) ≤ℤ z → z ≤ℤ pos (10 ^ 9) → FitsSigned w64 z
 wide z low high = omega (arith, ints, low, high)

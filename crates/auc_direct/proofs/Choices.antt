@@ -24,7 +24,7 @@ use Rattle.auc_answers.specs.Claims.{ArePlaceable, HasNoPriceUnheld, HoldsAt, Ho
 use Rattle.auc_answers.proofs.FoundLaws.{person_at}
 use Rattle.auc_rows.specs.declared.arc.ShortArc.{ShortArc}
 use Rattle.auc_rows.specs.Rows.{AreSameRows, FlatTable, IsFlatTable, flat_row_of, scale_in, short}
-use Rattle.auc_market.specs.declared.holdings.TheConstants.{NOBODY}
+use Rattle.auc_letters.specs.declared.limits.TheConstants.{NOBODY}
 use Rattle.auc_direct.specs.Held.{AreHeld, IsHeld, arc_by}
 use Rattle.auc_market.specs.Market.{AreSpare, HaveObjects, Stands, holder_at, own_at}
 use Rattle.auc_market.specs.Scan.{short_value}

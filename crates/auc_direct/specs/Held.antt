@@ -6,7 +6,7 @@ use Rattle.auc_letters.specs.declared.state.Held.{Held}
 use Rattle.auc_answers.specs.Claims.{holder_at as held_at}
 use Rattle.auc_rows.specs.Rows.{short_row}
 use Rattle.auc_rows.specs.declared.arc.ShortArc.{ShortArc}
-use Rattle.auc_market.specs.declared.holdings.TheConstants.{NOBODY}
+use Rattle.auc_letters.specs.declared.limits.TheConstants.{NOBODY}
 use Rattle.auc_market.specs.Market.{holder_at, own_at}
 
 -- the problem's arc that an arc of a person's row stands for

@@ -14,6 +14,6 @@ mod state;
 
 pub use law::{awards_raise_prices, equal_letters_are_same, limits_are};
 pub use letter::{Bid, Letter, Why};
-pub use limits::{MOST_EPS, MOST_SHARDS};
+pub use limits::{LAST_EPS, MOST_EPS, MOST_SHARDS, NOBODY};
 pub use out::{Out, To, shard_of};
 pub use state::{Held, PersonState};

@@ -16,6 +16,7 @@ mod limits;
 mod pool;
 mod script;
 
+pub use auc_nodes::MOST_NODES;
 pub use call::{Call, PostRefused, Reply, Taken};
 pub use equality::{same_call, same_reply, same_taken};
 pub use error::MailError;
@@ -23,6 +24,6 @@ pub use laws::{
     calls_of_a_run_fit, closed_box_accepts_nothing, lanes_keep_their_order,
     only_the_sender_is_free, runs_keep_mails_sound,
 };
-pub use limits::{MOST_BOXES, MOST_LANES, MOST_NODES, MOST_SENDERS};
+pub use limits::{MOST_BOXES, MOST_LANES, MOST_SENDERS};
 pub use pool::MailPool;
 pub use script::run_script;

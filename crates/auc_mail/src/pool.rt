@@ -14,8 +14,8 @@ mod taking;
 use crate::boxes::{MailBox, NO_LANE, note_close};
 use crate::call::{Call, Reply};
 use crate::error::MailError;
-use crate::limits::{MOST_BOXES, MOST_LANES, MOST_NODES, MOST_SENDERS};
-use auc_nodes::NodePool;
+use crate::limits::{MOST_BOXES, MOST_LANES, MOST_SENDERS};
+use auc_nodes::{MOST_NODES, NodePool};
 use std::alloc::{AllocError, Global};
 use std::marker::Model;
 

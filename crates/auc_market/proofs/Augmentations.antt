@@ -9,7 +9,7 @@ use Rattle.auc_graph.specs.Dual.{price_at}
 use Rattle.auc_graph.specs.Price.{IsPrice}
 use Rattle.auc_rows.specs.declared.arc.ShortArc.{ShortArc}
 use Rattle.auc_rows.specs.Rows.{FlatTable, IsFlatTable, IsShort, flat_row_of, scale_in}
-use Rattle.auc_market.specs.declared.holdings.TheConstants.{NOBODY}
+use Rattle.auc_letters.specs.declared.limits.TheConstants.{NOBODY}
 use Rattle.auc_market.specs.declared.search.Rise.{Rise}
 use Rattle.auc_market.specs.Market.{AreHigher, AreSpare, IsSlack, Stands, holder_at, no_own, own_at}
 use Rattle.auc_market.specs.Path.{AreRaised, AreRises, AreTakenBack, AreWithin, HasRisen, IsRise, IsWithin}

@@ -11,7 +11,7 @@ use Rattle.auc_graph.specs.Price.{IsPrice}
 use Rattle.auc_letters.specs.Price.{IsEps}
 use Rattle.auc_rows.specs.declared.arc.ShortArc.{ShortArc}
 use Rattle.auc_rows.specs.Rows.{FlatTable, IsFlatTable, IsShort, flat_row_of, scale_in}
-use Rattle.auc_market.specs.declared.holdings.TheConstants.{NOBODY}
+use Rattle.auc_letters.specs.declared.limits.TheConstants.{NOBODY}
 use Rattle.auc_market.specs.Bid.{IsRaise}
 use Rattle.auc_market.specs.Augmented.{IsAugmented}
 use Rattle.auc_market.specs.Market.{AreSpare, HaveAllBut, IsAwarded, IsSlack, Stands, holder_at, no_own, own_at}

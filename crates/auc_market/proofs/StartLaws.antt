@@ -10,7 +10,7 @@ use Rattle.auc_graph.specs.Price.{IsPrice}
 use Rattle.auc_rows.specs.declared.arc.ShortArc.{ShortArc}
 use Rattle.auc_rows.specs.Rows.{FlatTable, IsFlatTable, IsShort, flat_row_of}
 use Rattle.auc_market.proofs.MarketLaws.{replicate_default}
-use Rattle.auc_market.specs.declared.holdings.TheConstants.{NOBODY}
+use Rattle.auc_letters.specs.declared.limits.TheConstants.{NOBODY}
 use Rattle.auc_market.specs.Endings.{IsStart}
 use Rattle.auc_market.specs.Market.{AreSpare, IsSlack, Stands, holder_at, no_own, own_at}
 use Rattle.auc_market.specs.Starts.{AreKept, ArePricesOf, AreSeated, any_eps}

@@ -5,7 +5,7 @@ use Rattle.auc_rows.specs.declared.arc.ShortArc.{ShortArc}
 use Rattle.auc_rows.specs.Rows.{FlatTable, flat_row_of, scale_in}
 use Rattle.auc_market.specs.declared.ending.Ending.{Ending}
 use Rattle.auc_market.specs.declared.holdings.Holdings.{Holdings}
-use Rattle.auc_market.specs.declared.holdings.TheConstants.{NOBODY}
+use Rattle.auc_letters.specs.declared.limits.TheConstants.{NOBODY}
 use Rattle.auc_market.specs.Bid.{IsOffer}
 use Rattle.auc_market.specs.Market.{holder_at, no_own, own_at}
 use Rattle.auc_market.specs.Augmented.{IsAugmented}

@@ -3,7 +3,7 @@ use Rattle.std.specs.Prelude.{ℕ, true, ◌≡◌, ◌≢◌, ◌⊎◌, List, 
 use Rattle.auc_rows.specs.declared.arc.ShortArc.{ShortArc}
 use Rattle.auc_rows.specs.Rows.{FlatTable, flat_row_of}
 use Rattle.auc_market.specs.declared.holdings.Holdings.{Holdings}
-use Rattle.auc_market.specs.declared.holdings.TheConstants.{NOBODY}
+use Rattle.auc_letters.specs.declared.limits.TheConstants.{NOBODY}
 use Rattle.auc_market.specs.declared.incumbent.Incumbent.{Incumbent}
 use Rattle.auc_market.specs.Market.{holder_at, own_at}
 

@@ -5,7 +5,7 @@ use Rattle.auc_graph.specs.Dual.{price_at}
 use Rattle.auc_graph.specs.Price.{IsPrice}
 use Rattle.auc_rows.specs.declared.arc.ShortArc.{ShortArc}
 use Rattle.auc_rows.specs.Rows.{FlatTable, flat_row_of, scale_in}
-use Rattle.auc_market.specs.declared.holdings.TheConstants.{NOBODY}
+use Rattle.auc_letters.specs.declared.limits.TheConstants.{NOBODY}
 use Rattle.auc_market.specs.Bid.{IsOffer}
 use Rattle.auc_market.specs.Scan.{short_value}
 

@@ -2,7 +2,7 @@
 use Rattle.std.specs.Prelude.{ℕ, ℤ, ◌≡◌, ◌≤ℤ◌, List}
 use Rattle.auc_graph.specs.Assignment.{total}
 use Rattle.auc_rows.specs.Rows.{FlatTable}
-use Rattle.auc_market.specs.declared.holdings.TheConstants.{NOBODY}
+use Rattle.auc_letters.specs.declared.limits.TheConstants.{NOBODY}
 use Rattle.auc_market.specs.Bids.{AreMadeWithin, State}
 use Rattle.auc_market.specs.Eps.{IsEpsOf}
 use Rattle.auc_market.specs.Market.{Stands, own_at}

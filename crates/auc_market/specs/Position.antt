@@ -5,7 +5,7 @@ use Rattle.auc_rows.specs.declared.arc.ShortArc.{ShortArc}
 use Rattle.auc_rows.specs.Rows.{EachHasArc, FlatTable, IsFlatTable}
 use Rattle.auc_market.specs.declared.ending.Chain.{Chain}
 use Rattle.auc_market.specs.declared.ending.Ending.{Ending}
-use Rattle.auc_market.specs.declared.holdings.TheConstants.{NOBODY}
+use Rattle.auc_letters.specs.declared.limits.TheConstants.{NOBODY}
 use Rattle.auc_market.specs.declared.incumbent.Incumbent.{Incumbent}
 use Rattle.auc_market.specs.declared.shortlist.Shortlist.{Shortlist}
 use Rattle.auc_market.specs.Bids.{AreCounted, AreSpent, IsBidMade, State, state}

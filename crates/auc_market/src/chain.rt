@@ -2,15 +2,15 @@
 //! place of the next one.
 
 ghost use Rattle.std.specs.Prelude.{◌≡◌, IfErr, IfOk, OnOk};
-ghost use Rattle.auc_market.specs.declared.holdings.TheConstants.{NOBODY};
+ghost use Rattle.auc_letters.specs.declared.limits.TheConstants.{NOBODY};
 ghost use Rattle.auc_market.specs.Halts.{IsHalt};
 ghost use Rattle.auc_market.specs.Position.{IsChain, IsFree, IsFreed, IsMove, Spends};
 
 use crate::ending::Chain;
 use crate::halt::Halt;
-use crate::holdings::NOBODY;
 use crate::market::Market;
 use crate::pace::Pace;
+use auc_letters::NOBODY;
 
 /// The number of bids left where a chain ended last, after one more bid.
 ///

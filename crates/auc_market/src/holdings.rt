@@ -5,11 +5,9 @@ ghost use Rattle.auc_market.specs.Market.{holder_at, no_own, own_at};
 
 use crate::bid::Bid;
 use crate::scan::wrapping_value;
+use auc_letters::NOBODY;
 use auc_rows::ShortArc;
 use std::alloc::{AllocError, Global};
-
-/// Marks an object that nobody holds, in place of its holder; and a person who holds nothing, in place of the object.
-pub const NOBODY: u32 = 4_294_967_295;
 
 /// Marks a person who holds no object, in place of the arc.
 pub(crate) const NO_OWN: ShortArc = ShortArc {

@@ -38,11 +38,12 @@ mod step;
 mod turns;
 mod watch;
 
+pub use auc_letters::LAST_EPS;
 pub use ending::Ending;
 pub use hall::HallSet;
 pub use halt::Halt;
 pub use holdings::Holdings;
-pub use market::{LAST_EPS, Market};
+pub use market::Market;
 pub use pace::{Pace, Pacing};
 pub use starts::tried;
 pub use watch::{Progress, Watch};

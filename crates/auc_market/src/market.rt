@@ -22,7 +22,7 @@
 
 ghost use Rattle.std.specs.Prelude.{true, ◌≡◌, ◌≢◌, ◌≤◌, ◌<◌, ℕ, pos, length, IfErr, IfNone, IfOk, IfSome, OnOk};
 ghost use Rattle.auc_rows.specs.Rows.{EachHasArc};
-ghost use Rattle.auc_market.specs.declared.holdings.TheConstants.{NOBODY};
+ghost use Rattle.auc_letters.specs.declared.limits.TheConstants.{NOBODY};
 ghost use Rattle.auc_market.specs.Endings.{IsStart};
 ghost use Rattle.auc_market.specs.Eps.{IsEpsOf};
 ghost use Rattle.auc_market.specs.Halts.{IsHalt};
@@ -33,17 +33,15 @@ use crate::augmented::Augmented;
 use crate::bid::scaled_spread;
 use crate::ending::Ending;
 use crate::halt::Halt;
-use crate::holdings::{Holdings, NO_OWN, NOBODY};
+use crate::holdings::{Holdings, NO_OWN};
 use crate::incumbent::Incumbent;
 use crate::lists::Lists;
 use crate::scan::wrapping_value_of;
 use crate::search::Search;
+use auc_letters::{LAST_EPS, NOBODY};
 use auc_rows::FlatRows;
 use std::alloc::{AllocError, Global};
 use std::marker::Model;
-
-/// The last eps: with epsilon-complementary slackness within 1, in scaled costs, an assignment has the least cost.
-pub const LAST_EPS: i64 = 1;
 
 /// The rows; eps, in scaled costs; prices, holders and own arcs; candidate lists; and room for searches.
 #[derive(Drop)]

@@ -1,8 +1,8 @@
 //! When a chain of bids searches for a path. Only numbers of bids and arcs are seen here, so no answer depends on it.
 
 use crate::lists::LONG_ROW;
-use crate::market::LAST_EPS;
 use crate::shortlist::LIST_CAPACITY;
+use auc_letters::LAST_EPS;
 use auc_rows::FlatRows;
 
 /// The tuning numbers that pace a phase.

@@ -4,17 +4,18 @@
 ghost use Rattle.std.specs.Prelude.{◌≡◌, ◌≢◌, ◌<◌, ℤ, List, IsTrue, false, length};
 ghost use Rattle.auc_letters.specs.Price.{IsEps};
 ghost use Rattle.auc_rows.specs.Rows.{IsFlatTable};
-ghost use Rattle.auc_market.specs.declared.holdings.TheConstants.{NOBODY};
+ghost use Rattle.auc_letters.specs.declared.limits.TheConstants.{NOBODY};
 ghost use Rattle.auc_market.specs.Market.{AreHigher, Stands, own_at};
 ghost use Rattle.auc_market.specs.Path.{AreRaised, AreRises, AreWithin, IsWithin};
 ghost use Rattle.auc_market.specs.Starts.{any_eps};
 ghost use Rattle.auc_market.specs.Augmented.{IsAugmented};
 
 use crate::bid::Bid;
-use crate::holdings::{Holdings, NOBODY};
+use crate::holdings::Holdings;
 use crate::search::Rise;
 use crate::slack::is_slack;
 use auc_graph::MOST_PRICE;
+use auc_letters::NOBODY;
 use auc_rows::FlatRows;
 
 impl Holdings {

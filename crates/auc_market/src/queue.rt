@@ -1,6 +1,6 @@
 //! A first-in, first-out queue of persons.
 
-use crate::holdings::NOBODY;
+use auc_letters::NOBODY;
 use std::alloc::{AllocError, Global};
 
 /// A linked list in one vector: for each person in the queue the next one. The last person points to itself, and a

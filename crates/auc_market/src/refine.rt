@@ -18,11 +18,11 @@ ghost use Rattle.auc_market.specs.Market.{HaveObjects, IsLifted, Stands};
 ghost use Rattle.auc_market.specs.Shortlist.{Kept};
 ghost use Rattle.auc_market.specs.Starts.{ArePricesOf, any_eps};
 
-use crate::holdings::{Holdings, NOBODY};
+use crate::holdings::Holdings;
 use crate::lists::Lists;
-use crate::market::LAST_EPS;
 use crate::queue::Queue;
 use auc_graph::MOST_PRICE;
+use auc_letters::{LAST_EPS, NOBODY};
 use auc_rows::FlatRows;
 use std::alloc::{AllocError, Global};
 

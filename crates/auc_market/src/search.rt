@@ -4,8 +4,9 @@
 //! Of its result nothing is proved, but that the search ends: the market tries a path before it takes it (`path.rt`).
 //! So sums may wrap here.
 
-use crate::holdings::{Holdings, NOBODY};
+use crate::holdings::Holdings;
 use crate::scan::wrapping_value;
+use auc_letters::NOBODY;
 use auc_rows::FlatRows;
 use std::alloc::{AllocError, Global};
 use std::collections::BinaryHeap;

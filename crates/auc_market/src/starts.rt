@@ -3,16 +3,17 @@
 ghost use Rattle.std.specs.Prelude.{ℕ, ◌≡◌, ◌≢◌, ◌<◌, length, false, pos, IfOk, IfSome};
 ghost use Rattle.auc_letters.specs.Price.{IsEps};
 ghost use Rattle.auc_rows.specs.Rows.{EachHasArc};
-ghost use Rattle.auc_market.specs.declared.holdings.TheConstants.{NOBODY};
+ghost use Rattle.auc_letters.specs.declared.limits.TheConstants.{NOBODY};
 ghost use Rattle.auc_market.specs.Market.{HaveObjects, Stands, own_at};
 ghost use Rattle.auc_market.specs.Endings.{IsStart};
 ghost use Rattle.auc_market.specs.Position.{Begins};
 ghost use Rattle.auc_market.specs.Starts.{AreKept, AreOpened, ArePricesOf, AreSeated, any_eps};
 
 use crate::bid::Bid;
-use crate::holdings::{Holdings, NOBODY};
-use crate::market::{LAST_EPS, Market};
+use crate::holdings::Holdings;
+use crate::market::Market;
 use crate::scan::wrapping_value_of;
+use auc_letters::{LAST_EPS, NOBODY};
 use auc_rows::FlatRows;
 use std::alloc::{AllocError, Global};
 

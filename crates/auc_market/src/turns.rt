@@ -3,16 +3,16 @@
 //! other chain, which needs nothing of it.
 
 ghost use Rattle.std.specs.Prelude.{◌≡◌, ◌≢◌, ◌+◌, ◌<◌, ◌≤◌, length, true, false, IfErr, IfOk, OnOk};
-ghost use Rattle.auc_market.specs.declared.holdings.TheConstants.{NOBODY};
+ghost use Rattle.auc_letters.specs.declared.limits.TheConstants.{NOBODY};
 ghost use Rattle.auc_market.specs.Halts.{IsHalt};
 ghost use Rattle.auc_market.specs.Market.{HaveAllBut};
 ghost use Rattle.auc_market.specs.Position.{AreServed, AreSold, Spends};
 
 use crate::ending::Chain;
 use crate::halt::Halt;
-use crate::holdings::NOBODY;
 use crate::market::Market;
 use crate::pace::Pace;
+use auc_letters::NOBODY;
 
 /// The next bidder of this chain, and the next person to begin: the displaced person if there is one, else the next one
 /// to begin. LLVM compiles this to selects: a branch would be mispredicted where a chain ends.

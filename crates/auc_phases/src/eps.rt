@@ -6,15 +6,13 @@ ghost use Rattle.auc_letters.specs.Price.{IsEps};
 ghost use Rattle.auc_phases.specs.Eps.{first_eps, next_eps, scaled_spread};
 
 use auc_graph::Rows;
+use auc_letters::LAST_EPS;
 
 /// The first eps is the scaled spread of all costs divided by this.
 pub const FIRST_PART: i64 = 8;
 
 /// The next eps is the last one divided by this.
 pub const NEXT_PART: i64 = 5;
-
-/// The eps of the last phase.
-pub const LAST_EPS: i64 = 1;
 
 /// The spread of all costs, in scaled costs.
 fn scaled_spread(rows: &Rows) -> i64

@@ -10,7 +10,8 @@ mod hub;
 mod limits;
 mod reasons;
 
-pub use eps::{LAST_EPS, first_eps, next_eps};
+pub use auc_letters::LAST_EPS;
+pub use eps::{first_eps, next_eps};
 pub use hub::Hub;
 pub use limits::{Limits, USUAL_BIDS, nodes_or};
 pub use reasons::{reason_for, reason_to_stop};

@@ -2,7 +2,7 @@
 
 ghost use Rattle.std.specs.Prelude.{ℕ, ◌≡◌, ◌≤◌, ◌<◌, ◌+◌, ◌*◌, length, vec_len, IfOk, IfErr};
 ghost use Rattle.auc_graph.specs.declared.limits.TheConstants.{MOST_PERSONS};
-ghost use Rattle.auc_mail.specs.declared.limits.TheConstants.{MOST_NODES};
+ghost use Rattle.auc_mail.specs.Limits.{NodesFit};
 ghost use Rattle.auc_book.specs.declared.limits.TheConstants.{MOST_ROOM};
 ghost use Rattle.auc_book.specs.Seat.{new_account};
 ghost use Rattle.auc_threads.specs.declared.error.RunError.TheVariants.{NoMemory};
@@ -61,7 +61,7 @@ fn new_mail<N: MailBrand>(
     requires numbers { IsNamed (numbers N.boxes N.workers N.nodes N.most N.room) boxes nodes limits.now }
     requires boxes { boxes ≤ 16 }
     requires workers { workers ≡ workers_of limits.now.shards }
-    requires nodes { nodes ≤ MOST_NODES }
+    requires nodes { NodesFit nodes }
     requires limits { AreThreadLimits limits.now }
     ensures seats { IfOk result (λ r. Placed (λ k a. a ≡ new_account k) 0 r.1.items) }
     ensures many { IfOk result (λ r. vec_len r.1 ≡ workers) }

@@ -10,10 +10,10 @@ ghost use Rattle.auc_world.specs.SinglePhase.{answered, begun, noted, with_sale,
 ghost use Rattle.auc_world.specs.Lots.{holder_in, price_in};
 
 use crate::single_shard::lot::Lot;
-use crate::single_shard::notice::{NOBODY, Notice};
+use crate::single_shard::notice::Notice;
 use crate::single_shard::task::Task;
 use auc_answers::Gathered;
-use auc_letters::{Bid, Held};
+use auc_letters::{Bid, Held, NOBODY};
 use std::alloc::{AllocError, Global};
 use std::collections::VecDeque;
 use std::marker::Model;

@@ -3,8 +3,7 @@
 ghost use Rattle.std.specs.Prelude.{◌≡◌, None};
 ghost use Rattle.auc_world.specs.Lots.{holder_in, price_in};
 
-use crate::single_shard::notice::NOBODY;
-use auc_letters::Held;
+use auc_letters::{Held, NOBODY};
 
 /// The price of an object, in scaled costs, its holder, and the holder's arc.
 #[derive(Clone, Copy)]

@@ -1,8 +1,5 @@
 //! A letter that waits for the persons: the price of an object, and the person whom it frees.
 
-/// Marks a letter that frees nobody.
-pub(crate) const NOBODY: u32 = 4_294_967_295;
-
 /// A letter of the only shard of the objects to the only one of the persons, in 16 bytes; an award where it frees
 /// nobody. It doesn't name the winner of an object, since nothing of the winner's changes here by the letter.
 #[derive(Clone, Copy)]

@@ -1,5 +1,5 @@
 use Rattle.std.proofs.Common.{ℕ, ◌≤◌, ◌≡◌}
-use Rattle.auc_market.specs.declared.holdings.TheConstants.{NOBODY}
+use Rattle.auc_letters.specs.declared.limits.TheConstants.{NOBODY}
 use Rattle.auc_market.specs.Market.{own_at}
 use Rattle.auc_market.specs.Starts.{AreSeated}
 use Rattle.auc_market.proofs.holdings.Holdings.open_at.Given as goal

@@ -1,5 +1,5 @@
 use Rattle.std.proofs.Common.{ℕ, ◌<◌, ◌≡◌, ◌≢◌, false}
-use Rattle.auc_market.specs.declared.holdings.TheConstants.{NOBODY}
+use Rattle.auc_letters.specs.declared.limits.TheConstants.{NOBODY}
 use Rattle.auc_market.specs.Market.{IsSlack, Stands, own_at}
 use Rattle.auc_market.specs.Starts.{AreKept, any_eps}
 use Rattle.auc_market.proofs.holdings.Holdings.release.Given as goal

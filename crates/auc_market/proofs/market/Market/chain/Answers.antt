@@ -1,6 +1,6 @@
 use Rattle.std.proofs.Common.{◌-◌, ap, arith, length, refl}
 use Rattle.auc_rows.specs.Rows.{FlatTable}
-use Rattle.auc_market.specs.declared.holdings.TheConstants.{NOBODY}
+use Rattle.auc_letters.specs.declared.limits.TheConstants.{NOBODY}
 use Rattle.auc_market.proofs.Moving.{above_still, spends_more, spends_none, spends_still}
 use Rattle.auc_market.proofs.Serving.{all_have}
 use Rattle.auc_market.proofs.market.Market.chain.Goals as goal

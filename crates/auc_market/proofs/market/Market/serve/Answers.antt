@@ -1,6 +1,6 @@
 use Rattle.std.proofs.Common.{rules, ℕ, ◌≡◌, ◌≢◌, ◌∙◌, ◌<◌, ◌-◌, ap, arith, length, refl, subst}
 use Rattle.auc_rows.specs.Rows.{FlatTable}
-use Rattle.auc_market.specs.declared.holdings.TheConstants.{NOBODY}
+use Rattle.auc_letters.specs.declared.limits.TheConstants.{NOBODY}
 use Rattle.auc_market.specs.Market.{HaveAllBut, own_at}
 use Rattle.auc_market.specs.Position.{Spends}
 use Rattle.auc_market.proofs.Moving.{above_still, spends_more, spends_none, spends_still}

@@ -1,5 +1,5 @@
 use Rattle.std.proofs.Common.{◌<◌, ◌≤◌, ◌≡◌, ◌≢◌, length}
-use Rattle.auc_market.specs.declared.holdings.TheConstants.{NOBODY}
+use Rattle.auc_letters.specs.declared.limits.TheConstants.{NOBODY}
 use Rattle.auc_market.specs.Market.{HaveAllBut, own_at}
 use Rattle.auc_market.specs.Position.{Spends}
 use Rattle.auc_market.proofs.market.Market.serve.Given as goal

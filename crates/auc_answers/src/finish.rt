@@ -8,7 +8,8 @@ ghost use Rattle.auc_graph.specs.Price.{IsPrice};
 ghost use Rattle.auc_graph.specs.Table.{IsTableOf};
 ghost use Rattle.auc_claim.specs.Claim.{chosen};
 ghost use Rattle.auc_hall.specs.OfProblem.{IsHallSetOf};
-ghost use Rattle.auc_answers.specs.Answers.{IsBracketAnswer, IsBracketOf, IsCertified, IsInfeasibleAnswer, IsOptimalAnswer, stop_of};
+ghost use Rattle.auc_answers.specs.Answers.{IsBracketAnswer, IsBracketOf, IsCertified, IsInfeasibleAnswer};
+ghost use Rattle.auc_answers.specs.Answers.{IsOptimalAnswer, stop_of};
 ghost use Rattle.auc_answers.specs.Claims.{BoundFits, IsBracketBy, IsChoiceOf, IsClaimOf, claim_of, picks_of};
 
 use crate::answer::{Answer, Guard};
@@ -222,7 +223,8 @@ pub fn proved_bracket(
     reason: Reason,
     gathered: Gathered,
 ) -> Result<Answer, AllocError>
-    requires choice { (choice : List Arc) × IsChoiceOf problem.now gathered.holders.items choice × IsAssignment problem.now choice }
+    requires choice { (choice : List Arc) × IsChoiceOf problem.now gathered.holders.items choice
+        × IsAssignment problem.now choice }
     requires prices { length gathered.prices.items ≡ problem.now.objects }
     requires within { All IsPrice gathered.prices.items }
     requires fits { BoundFits problem.now gathered.prices.items }

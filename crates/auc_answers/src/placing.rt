@@ -37,7 +37,8 @@ pub(crate) fn place_holders(
 ) -> Result<Option<Partial>, AllocError>
     requires rows { IsTableOf problem.now rows.now }
     requires holders { length holders.now ≡ problem.now.objects }
-    ensures placed { IfOk result (λ o. IfSome o (λ partial. IsFor rows.now partial × ArePlaceable problem.now holders.now)) }
+    ensures placed { IfOk result (λ o. IfSome o (λ partial. IsFor rows.now partial
+        × ArePlaceable problem.now holders.now)) }
     ensures holders { IfOk result (λ o. IfSome o (λ partial. AreHoldersArcs holders.now partial.choice)) }
     ensures unplaced { IfOk result (λ o. IfNone o (ArePlaceable problem.now holders.now → ⊥)) }
 {

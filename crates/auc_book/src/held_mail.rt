@@ -74,8 +74,10 @@ impl<'b, T: Copy, N: MailBrand> HeldMail<'b, T, N> {
         reserve: u32,
     ) -> Result<u64, CallRefused>
         requires { to < N.boxes }
-        ensures calls { Calls self.old seat.old.worker (Call.Post seat.old.worker to item reserve) (post_reply result) self.new }
-        ensures seat { SeatCalls N.room seat.old (Call.Post seat.old.worker to item reserve) (post_reply result) seat.new }
+        ensures calls { Calls self.old seat.old.worker (Call.Post seat.old.worker to item reserve)
+            (post_reply result) self.new }
+        ensures seat { SeatCalls N.room seat.old (Call.Post seat.old.worker to item reserve)
+            (post_reply result) seat.new }
     {
         let answer = self.locked.post(seat, to, item, reserve);
         if answer.is_ok() {

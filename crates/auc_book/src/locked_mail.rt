@@ -91,8 +91,10 @@ impl<T: Copy, N: MailBrand> LockedMail<T, N> {
         reserve: u32,
     ) -> Result<u64, CallRefused>
         requires { to < N.boxes }
-        ensures calls { Calls self.old seat.old.worker (Call.Post seat.old.worker to item reserve) (post_reply result) self.new }
-        ensures seat { SeatCalls N.room seat.old (Call.Post seat.old.worker to item reserve) (post_reply result) seat.new }
+        ensures calls { Calls self.old seat.old.worker (Call.Post seat.old.worker to item reserve)
+            (post_reply result) self.new }
+        ensures seat { SeatCalls N.room seat.old (Call.Post seat.old.worker to item reserve)
+            (post_reply result) seat.new }
     {
         let sender = seat.worker();
         match self.note(
@@ -161,7 +163,8 @@ impl<T: Copy, N: MailBrand> LockedMail<T, N> {
     // The lines of the trail, from an empty mail on.
     pub(crate) fn into_lines(self) -> Vec<TrailLine<T>>
         ensures lines { result.items ≡ self.trail }
-        ensures run { 0 < N.room → (last : _) × Run (empty_mail N.boxes N.workers N.nodes N.most) (events_of result.items) last }
+        ensures run { 0 < N.room → (last : _) × Run (empty_mail N.boxes N.workers N.nodes N.most)
+            (events_of result.items) last }
         ensures own { All (λ l. (l.worker < N.workers) × IsOwn l.worker l.call) result.items }
     {
         self.state.every_state_is_noted();

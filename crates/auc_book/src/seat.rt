@@ -37,7 +37,8 @@ impl<T: Copy, N: MailBrand> Model for Seat<T, N> {
     ghost view = { λ s. record { worker = s.number; count = s.calls; turned_away = s.turned; lines = s.own.items } };
 
     ghost invariant = { λ s. IsSeated N.workers N.room (record
-        { worker = s.number; count = s.calls; turned_away = s.turned; lines = s.own.items }) s.places (vec_capacity s.own) s.share.parts
+        { worker = s.number; count = s.calls; turned_away = s.turned; lines = s.own.items }) s.places
+        (vec_capacity s.own) s.share.parts
         s.share.amount };
 }
 

@@ -85,7 +85,8 @@ impl<T: Copy, N: MailBrand> SharedMail<T, N> {
     ) -> Result<(SharedMail<T, N>, Vec<Seat<T, N>>), MailError>
         requires name { ledger.name ≡ N.name }
         requires parts { (ledger.parts ≡ N.parts) × (N.parts ≡ workers) }
-        requires numbers { (boxes ≡ N.boxes) × (workers ≡ N.workers) × (nodes ≡ N.nodes) × (most ≡ N.most) × (room ≡ N.room) }
+        requires numbers { (boxes ≡ N.boxes) × (workers ≡ N.workers) × (nodes ≡ N.nodes) × (most ≡ N.most)
+            × (room ≡ N.room) }
         requires some_worker { 0 < workers }
         ensures seats { IfOk result (λ r. r.1.items ≡ map new_account (range_with_len 0 workers)) }
         ensures within { OnOk result (LanesFit boxes workers × NodesFit nodes × RoomFits room) }

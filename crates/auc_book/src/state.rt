@@ -78,7 +78,8 @@ impl<T: Copy> MailState<T> {
     // The empty mail, with places for the lines.
     fn with_room(alloc: Global, pool: MailPool<T>, room: u32) -> Result<MailState<T>, MailError>
         requires { IsEmpty pool }
-        ensures made { IfOk result (λ state. state ≡ new_state (length pool.accepting) pool.senders pool.nodes pool.most room) }
+        ensures made { IfOk result (λ state. state ≡ new_state (length pool.accepting) pool.senders pool.nodes pool.most
+            room) }
         ensures refused { IfErr result (λ e. e ≡ MailError.NoMemory) }
     {
         match Vec::with_capacity(alloc, room as usize) {

@@ -38,7 +38,8 @@ pub fn solve_call(
 ) -> i32
     ensures told { IsListTold (listed_problem given.now)
         (start_fault (listed_problem given.now) run.now.start.now) result
-        (memory choice.old prices.old hall_objects.old) (memory choice.new prices.new hall_objects.new) found.old found.new }
+        (memory choice.old prices.old hall_objects.old) (memory choice.new prices.new hall_objects.new) found.old
+        found.new }
     ensures limit { result ≡ pos 4
         → IsLimitTold (listed_problem given.now) run.now.start.now run.now.bids
         choice.new prices.new found.new.kind found.new.lower found.new.cost }
@@ -71,7 +72,8 @@ pub fn solve_by_messages_call(
 ) -> i32
     ensures told { IsListTold (listed_problem given.now)
         (start_fault_by_messages (listed_problem given.now) run.now.start.now) result
-        (memory choice.old prices.old hall_objects.old) (memory choice.new prices.new hall_objects.new) found.old found.new }
+        (memory choice.old prices.old hall_objects.old) (memory choice.new prices.new hall_objects.new) found.old
+        found.new }
     ensures run { result ≢ pos 2 → result ≢ pos 5 → result ≢ pos 6 → result ≢ pos 7
         → IsRunTold (listed_problem given.now) run.now.start.now run.now.bids
         (memory choice.new prices.new hall_objects.new) result found.old found.new }
@@ -118,7 +120,8 @@ pub fn check_hall_call(
     hall_objects: &[u32],
     found: &mut Found,
 ) -> i32
-    ensures told { IsHallChecked (listed_problem given.now) hall_persons.now hall_objects.now result found.old found.new }
+    ensures told { IsHallChecked (listed_problem given.now) hall_persons.now hall_objects.now result found.old
+        found.new }
 {
     let checked = check_hall_at(alloc, given, hall_persons, hall_objects);
     tell_checked(checked, found)

@@ -1,7 +1,8 @@
 //! Faults and limits as numbers, for callers that know no enum. Kinds are counted from 1.
 
 ghost use Rattle.std.specs.Prelude.{◌≡◌};
-ghost use Rattle.auc_call.specs.Codes.{list_kind, list_place, start_kind, start_place, limit_kind, refused_kind, refused_place, claim_kind, claim_place};
+ghost use Rattle.auc_call.specs.Codes.{list_kind, list_place, start_kind, start_place, limit_kind, refused_kind};
+ghost use Rattle.auc_call.specs.Codes.{refused_place, claim_kind, claim_place};
 
 use crate::checked::ClaimFault;
 use crate::start::StartFault;

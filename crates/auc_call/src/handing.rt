@@ -30,7 +30,8 @@ pub(crate) fn hand_optimal(
     requires cert { IsLeastCertificate problem.now cert.now }
     requires choice { length choice.old ≡ problem.now.persons }
     requires prices { length prices.old ≡ problem.now.objects }
-    ensures solved { (set : List ℕ) → IsSolved problem.now (memory choice.old prices.old set) (memory choice.new prices.new set) result }
+    ensures solved { (set : List ℕ) → IsSolved problem.now (memory choice.old prices.old set)
+        (memory choice.new prices.new set) result }
     ensures written { (set : List ℕ) → IsWritten problem.now cert.now (memory choice.new prices.new set) result }
 {
     match cert.parts() {
@@ -57,7 +58,8 @@ pub(crate) fn hand_bracket(
     requires cert { IsBracketCertificate problem.now cert.now }
     requires choice { length choice.old ≡ problem.now.persons }
     requires prices { length prices.old ≡ problem.now.objects }
-    ensures solved { (set : List ℕ) → IsSolved problem.now (memory choice.old prices.old set) (memory choice.new prices.new set) result }
+    ensures solved { (set : List ℕ) → IsSolved problem.now (memory choice.old prices.old set)
+        (memory choice.new prices.new set) result }
     ensures written { (set : List ℕ) → IsWritten problem.now cert.now (memory choice.new prices.new set) result }
 {
     match cert.parts() {
@@ -91,7 +93,8 @@ pub(crate) fn hand_hall(
     requires cert { IsHallCertificate problem.now cert.now }
     requires choice { length choice.old ≡ problem.now.persons }
     requires set { length set.old ≡ problem.now.persons }
-    ensures solved { IsSolved problem.now (memory choice.old prices.now set.old) (memory choice.new prices.now set.new) result }
+    ensures solved { IsSolved problem.now (memory choice.old prices.now set.old)
+        (memory choice.new prices.now set.new) result }
     ensures written { IsWritten problem.now cert.now (memory choice.new prices.now set.new) result }
 {
     // Read here, so that the proof knows what every problem keeps.

@@ -27,7 +27,8 @@ fn hand_out(
 ) -> Solved
     requires answer { IsAnswer problem.now answer.now }
     requires sizes { AreSizes problem.now (memory choice.old prices.old set.old) }
-    ensures solved { IsSolved problem.now (memory choice.old prices.old set.old) (memory choice.new prices.new set.new) result }
+    ensures solved { IsSolved problem.now (memory choice.old prices.old set.old)
+        (memory choice.new prices.new set.new) result }
     ensures written { IsAnswerWritten problem.now answer.now (memory choice.new prices.new set.new) result }
 {
     match answer {
@@ -74,7 +75,8 @@ pub(crate) fn solve_into(
     ensures solves { Solves driver (listed_problem given.now) run.now.start.now
         (memory choice.old prices.old set.old) (memory choice.new prices.new set.new) result }
     ensures run { IfOk result
-        (IsSolvedBy driver (listed_problem given.now) run.now.start.now run.now.bids (memory choice.new prices.new set.new)) }
+        (IsSolvedBy driver (listed_problem given.now) run.now.start.now run.now.bids
+        (memory choice.new prices.new set.new)) }
 {
     let wanted = objects_or(given.objects, given.persons) as usize;
     let places = given.persons as usize;

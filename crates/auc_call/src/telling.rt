@@ -1,7 +1,8 @@
 //! What a call tells: a status, and a few fields.
 
 ghost use Rattle.std.specs.Prelude.{◌≡◌};
-ghost use Rattle.auc_call.specs.Telling.{failed_status, failed_found, solve_status, solve_found, check_status, check_found};
+ghost use Rattle.auc_call.specs.Telling.{failed_status, failed_found, solve_status, solve_found, check_status};
+ghost use Rattle.auc_call.specs.Telling.{check_found};
 
 use crate::checked::Checked;
 use crate::codes::{

@@ -84,7 +84,8 @@ pub(crate) fn choice_of(
 ) -> Result<(Picks, Prices), CertTextError>
     requires { AreCounted persons objects }
     ensures found { IfOk result
-        (λ x. IsChoice x.0 x.1 × (length x.0 ≡ persons) × (length x.1 ≡ objects) × (bytes.now ≡ joined (choice_lines x.0 x.1))) }
+        (λ x. IsChoice x.0 x.1 × (length x.0 ≡ persons) × (length x.1 ≡ objects)
+        × (bytes.now ≡ joined (choice_lines x.0 x.1))) }
     ensures line { AnswersUnless CertTextError.NoMemory (λ x. x) result
         (λ r. IfErr r (NamesLine (From 2 (IsFirstBadOf (ChoiceLines persons objects) bytes.now)))) }
 {

@@ -7,5 +7,6 @@ ghost use Rattle.auc_cert.specs.Text.{text};
 
 /// Each certificate has one spelling, and no spelling begins another one.
 pub fn no_spelling_begins_another()
-    ensures { (c d : CertParts) (more : List ℕ) → IsSpelled c → IsSpelled d → text c ++ more ≡ text d → (c ≡ d) × (more ≡ []) }
+    ensures { (c d : CertParts) (more : List ℕ) → IsSpelled c → IsSpelled d → text c ++ more ≡ text d → (c ≡ d)
+        × (more ≡ []) }
 {}

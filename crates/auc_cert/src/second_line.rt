@@ -1,7 +1,8 @@
 //! The second line of a certificate, read: the kind of the claim, and how many lines of which shape follow.
 
 ghost use Rattle.std.specs.Prelude.{◌≡◌, pos};
-ghost use Rattle.auc_cert.specs.Fields.{viewed, after, objects_at, optimal_at, infeasible_at, bracket_at, second_line_at};
+ghost use Rattle.auc_cert.specs.Fields.{viewed, after, objects_at, optimal_at, infeasible_at, bracket_at};
+ghost use Rattle.auc_cert.specs.Fields.{second_line_at};
 ghost use Rattle.auc_cert.specs.SecondLine.{least_named};
 
 use crate::fields::{field_of, word_before};

@@ -2,7 +2,8 @@
 
 ghost use Rattle.std.specs.Prelude.{◌++◌, ◌<◌, ◌≤◌, ◌^◌, length};
 ghost use Rattle.auc_cert.specs.Writing.{Writes};
-ghost use Rattle.auc_cert.specs.Text.{text, head_line, assign_line, price_line, optimal_line, infeasible_line, bracket_line, number_line, numbered, joined, choice_lines};
+ghost use Rattle.auc_cert.specs.Text.{text, head_line, assign_line, price_line, optimal_line, infeasible_line};
+ghost use Rattle.auc_cert.specs.Text.{bracket_line, number_line, numbered, joined, choice_lines};
 
 use crate::line::Line;
 use crate::output::{Part, WriteFault, write_parts, write_whole};
@@ -54,7 +55,8 @@ fn write_infeasible_head<W: Write>(
     persons: u64,
     objects: u64,
 ) -> Result<(), WriteFault>
-    ensures { Writes result (W.contents writer.old) (W.contents writer.new) (head_line version ++ infeasible_line persons objects) }
+    ensures { Writes result (W.contents writer.old) (W.contents writer.new)
+        (head_line version ++ infeasible_line persons objects) }
 {
     let parts = [
         Part::Words(head_line(version)),
@@ -146,7 +148,8 @@ fn write_price<W: Write>(writer: &mut W, object: u64, price: i64) -> Result<(), 
 /// numbered from 1.
 pub fn write_picks<W: Write>(writer: &mut W, choice: &[Pick]) -> Result<(), WriteFault>
     requires { length choice.now < 2 ^ 32 }
-    ensures { Writes result (W.contents writer.old) (W.contents writer.new) (joined (numbered assign_line 0 choice.now)) }
+    ensures { Writes result (W.contents writer.old) (W.contents writer.new)
+        (joined (numbered assign_line 0 choice.now)) }
 {
     let mut person: u64 = 0;
     for pick in choice {
@@ -159,7 +162,8 @@ pub fn write_picks<W: Write>(writer: &mut W, choice: &[Pick]) -> Result<(), Writ
 /// Writes the lines of all objects.
 fn write_prices<W: Write>(writer: &mut W, prices: &[i64]) -> Result<(), WriteFault>
     requires { length prices.now < 2 ^ 32 }
-    ensures { Writes result (W.contents writer.old) (W.contents writer.new) (joined (numbered price_line 0 prices.now)) }
+    ensures { Writes result (W.contents writer.old) (W.contents writer.new)
+        (joined (numbered price_line 0 prices.now)) }
 {
     let mut object: u64 = 0;
     for price in prices {
@@ -173,7 +177,8 @@ fn write_prices<W: Write>(writer: &mut W, prices: &[i64]) -> Result<(), WriteFau
 fn write_choice<W: Write>(writer: &mut W, choice: &[Pick], prices: &[i64]) -> Result<(), WriteFault>
     requires choice { length choice.now < 2 ^ 32 }
     requires prices { length prices.now < 2 ^ 32 }
-    ensures { Writes result (W.contents writer.old) (W.contents writer.new) (joined (choice_lines choice.now prices.now)) }
+    ensures { Writes result (W.contents writer.old) (W.contents writer.new)
+        (joined (choice_lines choice.now prices.now)) }
 {
     write_picks(writer, choice)?;
     write_prices(writer, prices)
@@ -187,7 +192,8 @@ fn write_optimal<W: Write>(
 ) -> Result<(), WriteFault>
     requires choice { length choice.now < 2 ^ 32 }
     requires prices { length prices.now < 2 ^ 32 }
-    ensures { Writes result (W.contents writer.old) (W.contents writer.new) (text (CertParts.Optimal cost choice.now prices.now)) }
+    ensures { Writes result (W.contents writer.old) (W.contents writer.new)
+        (text (CertParts.Optimal cost choice.now prices.now)) }
 {
     let version = Version::of_sizes(choice.len(), prices.len());
     write_optimal_head(
@@ -233,7 +239,8 @@ fn write_number<W: Write>(writer: &mut W, front: &[u8], number: u32) -> Result<(
 /// Writes the lines of numbers, each after this front.
 fn write_numbers<W: Write>(writer: &mut W, front: &[u8], numbers: &[u32]) -> Result<(), WriteFault>
     requires { length front.now ≤ 8 }
-    ensures { Writes result (W.contents writer.old) (W.contents writer.new) (joined (numbered (number_line front.now) 0 numbers.now)) }
+    ensures { Writes result (W.contents writer.old) (W.contents writer.new)
+        (joined (numbered (number_line front.now) 0 numbers.now)) }
 {
     for number in numbers {
         write_number(writer, front, *number)?;
@@ -246,7 +253,8 @@ fn write_infeasible<W: Write>(
     persons: &[u32],
     objects: &[u32],
 ) -> Result<(), WriteFault>
-    ensures { Writes result (W.contents writer.old) (W.contents writer.new) (text (CertParts.Infeasible persons.now objects.now)) }
+    ensures { Writes result (W.contents writer.old) (W.contents writer.new)
+        (text (CertParts.Infeasible persons.now objects.now)) }
 {
     let version = names_version(objects);
     write_infeasible_head(writer, version, persons.len() as u64, objects.len() as u64)?;

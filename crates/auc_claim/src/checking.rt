@@ -8,7 +8,8 @@ ghost use Rattle.auc_graph.specs.Price.{IsPrice};
 ghost use Rattle.auc_graph.specs.Dual.{EachHasArc};
 ghost use Rattle.auc_claim.specs.declared.reason.Reason.{Reason};
 ghost use Rattle.auc_claim.specs.Spelled.{IsChoice, AreNamed};
-ghost use Rattle.auc_claim.specs.Claim.{chosen, is_missing, is_sized, choice_faults, slack_fault, left_over_fault, bound_fault, fault_of, first_of, IsVerdict, IsAllowed};
+ghost use Rattle.auc_claim.specs.Claim.{chosen, is_missing, is_sized, choice_faults, slack_fault, left_over_fault};
+ghost use Rattle.auc_claim.specs.Claim.{bound_fault, fault_of, first_of, IsVerdict, IsAllowed};
 
 use crate::cert::{Cert, CertParts};
 use crate::flags::{first_look, missing_person, slack_person};
@@ -87,7 +88,8 @@ fn check_slack(
 fn check_left_over(alloc: Global, choice: &[Pick], prices: &[i64]) -> Result<(), CertRefused>
     requires few { length prices.now ≤ MOST_OBJECTS }
     requires objects { All (λ p. p.object < length prices.now) choice.now }
-    ensures { AnswersUnless CertRefused.NoMemory (λ x. x) result (IsVerdict (first_of (left_over_fault choice.now prices.now ∷ []))) }
+    ensures { AnswersUnless CertRefused.NoMemory (λ x. x) result (IsVerdict
+        (first_of (left_over_fault choice.now prices.now ∷ []))) }
 {
     match left_over(alloc, choice, prices)? {
         Some(object) => Err(CertRefused::LeftOver { object }),
@@ -170,7 +172,8 @@ fn check_bracket(
     ensures exact { (reason : Reason)
         → AnswersUnless CertRefused.NoMemory (λ x. x) result
         (IsVerdict (fault_of problem.now (CertParts.Bracket reason lower cost choice.now prices.now))) }
-    ensures allowed { (reason : Reason) → IsOk result → IsAllowed problem.now (CertParts.Bracket reason lower cost choice.now prices.now) }
+    ensures allowed { (reason : Reason) → IsOk result → IsAllowed problem.now
+        (CertParts.Bracket reason lower cost choice.now prices.now) }
 {
     if !is_sized(problem, choice, prices) {
         return Err(CertRefused::WrongSize);

@@ -1,13 +1,15 @@
 //! The result of one pass over the arcs for each person's pick: a flag for each person.
 
-ghost use Rattle.std.specs.Prelude.{◌≡◌, ◌<◌, ◌≤◌, ◌+◌, ◌^◌, not, ◌&&◌, true, length, map, All, None, IfOk, pos, neg_ℤ, ◌+ℤ◌, ◌*ℤ◌, ◌≤ℤ◌, int_le};
+ghost use Rattle.std.specs.Prelude.{◌≡◌, ◌<◌, ◌≤◌, ◌+◌, ◌^◌, not, ◌&&◌, true, length, map, All, None, IfOk, pos, neg_ℤ};
+ghost use Rattle.std.specs.Prelude.{◌+ℤ◌, ◌*ℤ◌, ◌≤ℤ◌, int_le};
 ghost use Rattle.std.specs.List.{position};
 ghost use Rattle.auc_graph.specs.Problem.{IsWithin};
 ghost use Rattle.auc_graph.specs.declared.limits.TheConstants.{MOST_PERSONS, MOST_COST};
 ghost use Rattle.auc_graph.specs.Price.{IsPrice};
 ghost use Rattle.auc_graph.specs.Dual.{price_at, arc_value};
 ghost use Rattle.auc_claim.specs.Spelled.{IsChoice};
-ghost use Rattle.auc_claim.specs.Claim.{arc_of, pick_value, chosen, same_arc, is_missing, is_slack_beside, is_slack_right, AreFlags, is_flag};
+ghost use Rattle.auc_claim.specs.Claim.{arc_of, pick_value, chosen, same_arc, is_missing, is_slack_beside};
+ghost use Rattle.auc_claim.specs.Claim.{is_slack_right, AreFlags, is_flag};
 
 use crate::lists::Pick;
 use auc_graph::Arc;
@@ -118,7 +120,8 @@ pub(crate) fn slack_person(
     requires few { length choice.now < 2 ^ 32 }
     requires arcs { All (IsWithin (length choice.now) (length prices.now)) arcs.now }
     requires picks { All (λ p. p.object < length prices.now) choice.now }
-    ensures { IfOk result (λ o. o ≡ position (λ c. not (is_slack_right scale prices.now arcs.now c)) (chosen 0 choice.now)) }
+    ensures { IfOk result (λ o. o ≡ position (λ c. not (is_slack_right scale prices.now arcs.now c))
+        (chosen 0 choice.now)) }
 {
     let fine = slack_flags(alloc, scale, choice, prices, arcs)?;
     Ok(first_person(fine.as_slice(), false))
@@ -192,7 +195,8 @@ pub(crate) fn first_look(
     requires arcs { All (IsWithin (length choice.now) (length prices.now)) arcs.now }
     ensures missing { IfOk result (λ x. x.0 ≡ position (is_missing arcs.now) (chosen 0 choice.now)) }
     ensures slack { IfOk result
-        (λ x. x.1 ≡ true → position (λ c. not (is_slack_right scale prices.now arcs.now c)) (chosen 0 choice.now) ≡ None) }
+        (λ x. x.1 ≡ true → position (λ c. not (is_slack_right scale prices.now arcs.now c)) (chosen 0 choice.now)
+        ≡ None) }
 {
     let values = pick_values(alloc, scale, choice, prices)?;
     let mut missing = vec![in alloc; true; choice.len()]?;

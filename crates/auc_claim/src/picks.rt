@@ -61,7 +61,8 @@ pub(crate) fn left_over(
 ) -> Result<Option<u32>, AllocError>
     requires few { length prices.now < 2 ^ 32 }
     requires objects { All (λ c. c.object < length prices.now) choice.now }
-    ensures { IfOk result (λ o. o ≡ position (is_left_over choice.now prices.now) (range_with_len 0 (length prices.now))) }
+    ensures { IfOk result (λ o. o ≡ position (is_left_over choice.now prices.now)
+        (range_with_len 0 (length prices.now))) }
 {
     let picked = picked_flags(alloc, prices.len(), choice)?;
     for object in 0..prices.len() {

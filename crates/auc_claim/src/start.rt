@@ -37,7 +37,8 @@ fn start_of(
     requires { All IsPrice prices.now }
     ensures each { IfOk result (λ v. length v.items ≡ persons) }
     ensures within { IfOk result (λ v. All IsStartPrice v.items) }
-    ensures exact { AnswersUnless StartError.NoMemory (λ v. v.items) result (λ r. r ≡ start_of_choice persons choice.now prices.now) }
+    ensures exact { AnswersUnless StartError.NoMemory (λ v. v.items) result
+        (λ r. r ≡ start_of_choice persons choice.now prices.now) }
 {
     if choice.len() != persons as usize || prices.len() != persons as usize {
         return Err(StartError::OtherSize);

@@ -1,6 +1,7 @@
 //! The arcs of a table of costs.
 
-ghost use Rattle.std.specs.Prelude.{◌≡◌, ◌↔◌, ◌≤◌, ◌<◌, ◌+◌, ◌*◌, ◌++◌, ℕ, ℤ, List, None, Contains, length, IfOk, IfErr, true};
+ghost use Rattle.std.specs.Prelude.{◌≡◌, ◌↔◌, ◌≤◌, ◌<◌, ◌+◌, ◌*◌, ◌++◌, ℕ, ℤ, List, None, Contains, length, IfOk};
+ghost use Rattle.std.specs.Prelude.{IfErr, true};
 ghost use Rattle.auc_graph.specs.declared.limits.TheConstants.{MOST_ARCS, MOST_PERSONS, MOST_OBJECTS};
 ghost use Rattle.auc_graph.specs.declared.arc.Arc.{Arc};
 ghost use Rattle.auc_graph.specs.InMemory.{first_fault};
@@ -64,7 +65,8 @@ fn place_behind(
     requires before { before ≤ MOST_ARCS }
     ensures place { IfOk result (λ place. place ≡ before + length (row_arcs gap person 0 row.now)) }
     ensures few { IfOk result (λ place. place ≤ MOST_ARCS) }
-    ensures faultless { IfOk result (λ place. first_fault persons (length row.now) before (row_arcs gap person 0 row.now) ≡ None) }
+    ensures faultless { IfOk result (λ place. first_fault persons (length row.now) before
+        (row_arcs gap person 0 row.now) ≡ None) }
     ensures fault { IfErr result (IsFirstFault persons (length row.now) before (row_arcs gap person 0 row.now)) }
 {
     let first = person * row.len() as u32;
@@ -93,7 +95,8 @@ pub(crate) fn count_arcs(
     requires objects { objects ≤ MOST_OBJECTS }
     requires table { IsTable persons objects stride (length costs.now) }
     ensures count { IfOk result (λ count. count ≡ length (table_arcs objects costs.now stride gap persons)) }
-    ensures faultless { IfOk result (λ count. first_fault persons objects 0 (table_arcs objects costs.now stride gap persons) ≡ None) }
+    ensures faultless { IfOk result (λ count. first_fault persons objects 0
+        (table_arcs objects costs.now stride gap persons) ≡ None) }
     ensures fault { IfErr result (IsFirstFault persons objects 0 (table_arcs objects costs.now stride gap persons)) }
 {
     let mut count = 0;

@@ -38,7 +38,8 @@ pub fn solve_table_call(
 ) -> i32
     ensures told { IsTableTold (tabled_problem given.now) given.now.stride (length given.now.costs.now)
         (start_fault (tabled_problem given.now) run.now.start.now) result
-        (memory choice.old prices.old hall_objects.old) (memory choice.new prices.new hall_objects.new) found.old found.new }
+        (memory choice.old prices.old hall_objects.old) (memory choice.new prices.new hall_objects.new) found.old
+        found.new }
     ensures limit { result ≡ pos 4 → ByObjects (tabled_problem given.now).arcs choice.new
         (λ places. IsLimitTold (tabled_problem given.now) run.now.start.now run.now.bids
         places prices.new found.new.kind found.new.lower found.new.cost) }

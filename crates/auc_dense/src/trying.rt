@@ -4,7 +4,8 @@
 ghost use Rattle.std.specs.Prelude.{◌≡◌, ◌≢◌, ◌<◌, ◌≤◌, ◌^◌, pos, neg_ℤ, ◌+ℤ◌, ◌≤ℤ◌, All, IsTrue, IfOk, IfSome, length};
 ghost use Rattle.auc_graph.specs.declared.limits.TheConstants.{MOST_PERSONS};
 ghost use Rattle.auc_dense.specs.Table.{IsTable};
-ghost use Rattle.auc_dense.specs.Tried.{AreBest, AreHeldApart, AreOthersFree, IsBestIn, IsNoneBelow, IsPlainPrice, ShowLeast};
+ghost use Rattle.auc_dense.specs.Tried.{AreBest, AreHeldApart, AreOthersFree, IsBestIn, IsNoneBelow, IsPlainPrice};
+ghost use Rattle.auc_dense.specs.Tried.{ShowLeast};
 
 use crate::table::row_of;
 use auc_claim::Pick;
@@ -87,7 +88,8 @@ fn best_picks(
     requires table { IsTable (length choice.now) objects stride (length costs.now) }
     requires len { length prices.now ≡ objects }
     requires prices { All IsPlainPrice prices.now }
-    ensures { IfOk result (λ o. IfSome o (λ picks. AreBest objects costs.now stride gap prices.now (length choice.now) picks.items)) }
+    ensures { IfOk result (λ o. IfSome o (λ picks. AreBest objects costs.now stride gap prices.now
+        (length choice.now) picks.items)) }
 {
     let mut picks = Vec::with_capacity(alloc, choice.len())?;
     for person in 0..choice.len() {
@@ -144,7 +146,8 @@ pub(crate) fn try_out(
 ) -> Result<Option<Vec<Pick>>, AllocError>
     requires few { persons ≤ MOST_PERSONS }
     requires table { IsTable persons objects stride (length costs.now) }
-    ensures { IfOk result (λ o. IfSome o (λ picks. ShowLeast persons objects costs.now stride gap picks.items proposal.now.prices.items)) }
+    ensures { IfOk result (λ o. IfSome o (λ picks. ShowLeast persons objects costs.now stride gap picks.items
+        proposal.now.prices.items)) }
 {
     let prices = proposal.prices.as_slice();
     let holders = proposal.holders.as_slice();

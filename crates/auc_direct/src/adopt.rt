@@ -64,7 +64,8 @@ pub(crate) fn adopted(
     rows: &FlatRows,
     scans: u64,
 ) -> Result<Option<Holdings>, AllocError>
-    ensures stands { IfOk result (λ o. IfSome o (λ m. Stands rows.now (pos 1) m.prices.items m.holders.items m.owns.items)) }
+    ensures stands { IfOk result (λ o. IfSome o (λ m. Stands rows.now (pos 1) m.prices.items m.holders.items
+        m.owns.items)) }
     ensures have { IfOk result (λ o. IfSome o (λ m. HaveObjects (length rows.now.rows) m.owns.items)) }
     ensures full { IfOk result (λ o. IfSome o (λ m. IsFullTable rows.now)) }
 {

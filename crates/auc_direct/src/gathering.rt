@@ -42,7 +42,8 @@ fn guessed(
 ) -> Result<Option<Vec<Option<Held>>>, AllocError>
     requires persons { length rows.now.rows ≡ problem.now.persons }
     requires holders { AreHolders problem.now holdings.now.holders.items holdings.now.owns.items }
-    ensures held { IfOk result (λ o. IfSome o (λ v. AreHeld problem.now holdings.now.holders.items holdings.now.owns.items v.items)) }
+    ensures held { IfOk result (λ o. IfSome o (λ v. AreHeld problem.now holdings.now.holders.items
+        holdings.now.owns.items v.items)) }
     ensures many { IfOk result (λ o. IfSome o (λ v. length v.items ≡ length holdings.now.holders.items)) }
 {
     let arcs = problem.arcs();

@@ -34,7 +34,8 @@ fn price_between(scale: i64, cost: i32, greatest: i32) -> i64
 /// the cheapest arcs of all objects have the same value at them. The object whose cheapest arc costs most has price 0,
 /// and so has an object with no arc. With more objects all prices are 0. O(objects).
 pub(crate) fn start_prices(alloc: Global, rows: &FlatRows) -> Result<Vec<i64>, AllocError>
-    ensures { (eps : ℤ) → (rows.now.objects ≡ length rows.now.rows) ⊎ (eps ≡ pos 1) → IfOk result (λ v. IsStart rows.now eps v.items) }
+    ensures { (eps : ℤ) → (rows.now.objects ≡ length rows.now.rows) ⊎ (eps ≡ pos 1)
+        → IfOk result (λ v. IsStart rows.now eps v.items) }
 {
     let mut prices = vec![in alloc; 0; rows.objects() as usize]?;
     if rows.persons() < rows.objects() {

@@ -37,7 +37,8 @@ fn play_anew<W: Watch>(
     requires eps { IsEpsOf market.old.table eps }
     ensures plays { OnOk result (Plays bids market.old market.new) }
     ensures played { IfOk result
-        (λ o. IfSome o (λ e. IsPlayedAt eps bids (W.has_stopped watch.old) (W.has_stopped watch.new) e market.old market.new)) }
+        (λ o. IfSome o (λ e. IsPlayedAt eps bids (W.has_stopped watch.old)
+        (W.has_stopped watch.new) e market.old market.new)) }
     ensures going { IfOk result (λ o. IfNone o (W.has_stopped watch.new ≡ W.has_stopped watch.old)) }
     ensures asked { IfOk result (λ o. IfSome o (λ e. W.was_asked watch.new ≡ true)) }
     ensures few { IfOk result (λ o. IfNone o (few < 2 ^ 64 - 1)) }
@@ -62,7 +63,8 @@ fn play_phases<W: Watch>(
 ) -> Result<Ending, Halt>
     requires rows { market.old.table ≡ rows.now }
     requires square { rows.now.objects ≡ length rows.now.rows }
-    ensures over { IfOk result (λ e. IsRunOut bids (W.has_stopped watch.old) (W.has_stopped watch.new) e market.old market.new) }
+    ensures over { IfOk result (λ e. IsRunOut bids (W.has_stopped watch.old)
+        (W.has_stopped watch.new) e market.old market.new) }
     ensures asked { IfOk result (λ e. W.was_asked watch.new ≡ true) }
     ensures halt { IfErr result (λ h. IsHalt rows.now h × (W.has_stopped watch.new ≡ W.has_stopped watch.old)) }
 {

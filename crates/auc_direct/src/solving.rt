@@ -1,6 +1,7 @@
 //! The direct solver: from a problem to an answer.
 
-ghost use Rattle.std.specs.Prelude.{Bool, ◌↔◌, IsTrue, ℕ, ℤ, List, true, ◌≡◌, ◌⊎◌, pos, All, length, IfErr, IfOk, IfSome, IfNone};
+ghost use Rattle.std.specs.Prelude.{Bool, ◌↔◌, IsTrue, ℕ, ℤ, List, true, ◌≡◌, ◌⊎◌, pos, All, length, IfErr, IfOk};
+ghost use Rattle.std.specs.Prelude.{IfSome, IfNone};
 ghost use Rattle.auc_graph.specs.Assignment.{total};
 ghost use Rattle.auc_graph.specs.Price.{IsPrice};
 ghost use Rattle.auc_market.specs.Halts.{IsHalt};
@@ -8,7 +9,8 @@ ghost use Rattle.auc_answers.specs.Answers.{HasAssignment, IsAnswer, IsBracketAn
 ghost use Rattle.auc_rows.specs.Rows.{AreRowsOf, EachHasArc, IsFlatTable};
 ghost use Rattle.auc_market.specs.Endings.{IsLeft};
 ghost use Rattle.auc_direct.specs.Adopted.{IsFullTable};
-ghost use Rattle.auc_direct.specs.Endings.{IsAsked, IsLimited, IsLimitedFrom, IsLimitedUnless, IsOfFirstPhases, IsOfPhases, IsOfPhasesFrom, IsOutcome};
+ghost use Rattle.auc_direct.specs.Endings.{IsAsked, IsLimited, IsLimitedFrom, IsLimitedUnless, IsOfFirstPhases};
+ghost use Rattle.auc_direct.specs.Endings.{IsOfPhases, IsOfPhasesFrom, IsOutcome};
 ghost use Rattle.auc_claim.specs.declared.reason.Reason.{Reason};
 ghost use Rattle.auc_market.specs.declared.ending.Ending.{Ending};
 ghost use Rattle.auc_direct.specs.Starts.{AreStartPrices};
@@ -93,7 +95,8 @@ fn answer_of(
 ) -> Result<Answer, AllocError>
     requires rows { AreRowsOf problem.now flat }
     requires sound { IsFlatTable flat }
-    requires left { IsLeft flat outcome.ending outcome.holdings.prices.items outcome.holdings.holders.items outcome.holdings.owns.items }
+    requires left { IsLeft flat outcome.ending outcome.holdings.prices.items outcome.holdings.holders.items
+        outcome.holdings.owns.items }
     ensures { IfOk result (IsTold problem.now flat outcome.ending outcome.holdings.prices.items) }
 {
     // Read here, so that the proof knows the invariant of the problem.
@@ -143,19 +146,23 @@ fn concluded(
 ) -> Result<Answer, AllocError>
     requires rows { AreRowsOf problem.now flat }
     requires sound { IsFlatTable flat }
-    requires left { IfOk ended (λ o. IsLeft flat o.ending o.holdings.prices.items o.holdings.holders.items o.holdings.owns.items) }
+    requires left { IfOk ended (λ o. IsLeft flat o.ending o.holdings.prices.items o.holdings.holders.items
+        o.holdings.owns.items) }
     requires halt { IfErr ended (IsHalt flat) }
     ensures is { IfOk result (IsAnswer problem.now) }
     ensures limit { (bids : ℕ) (begun : List ℤ) (before after : Bool)
         → IfOk ended
-        (λ o. IsOutcome flat bids begun before after o.ending o.holdings.prices.items o.holdings.holders.items o.holdings.owns.items)
+        (λ o. IsOutcome flat bids begun before after o.ending o.holdings.prices.items o.holdings.holders.items
+        o.holdings.owns.items)
         → IfErr ended (λ h. after ≡ before)
         → IfOk result (λ a. IsLimitedUnless before after a (IsLimited problem.now bids (total begun) a)) }
     ensures run { (bids : ℕ) (begun : List ℤ) (before after : Bool)
         → IfOk ended
-        (λ o. IsOutcome flat bids begun before after o.ending o.holdings.prices.items o.holdings.holders.items o.holdings.owns.items)
+        (λ o. IsOutcome flat bids begun before after o.ending o.holdings.prices.items o.holdings.holders.items
+        o.holdings.owns.items)
         → IfOk result (IsOfPhases problem.now bids begun) }
-    ensures asked { (asked : Bool) → IfOk ended (λ o. (asked ≡ true) ⊎ IsFullTable flat) → IfOk result (IsAsked asked problem.now) }
+    ensures asked { (asked : Bool) → IfOk ended (λ o. (asked ≡ true) ⊎ IsFullTable flat)
+        → IfOk result (IsAsked asked problem.now) }
 {
     match ended {
         Ok(outcome) => answer_of(alloc, problem, flat, outcome),
@@ -277,7 +284,8 @@ pub fn solve_direct_watched<W: Watch>(
 ) -> Result<Answer, AllocError>
     ensures is { IfOk result (IsAnswer problem.now) }
     ensures limit { IfOk result
-        (λ a. IsLimitedUnless (W.has_stopped watch.old) (W.has_stopped watch.new) a (IsLimited problem.now limits.now.bids (pos 0) a)) }
+        (λ a. IsLimitedUnless (W.has_stopped watch.old) (W.has_stopped watch.new) a
+        (IsLimited problem.now limits.now.bids (pos 0) a)) }
     ensures run { IfOk result (IsOfFirstPhases problem.now limits.now.bids) }
     ensures asked { IfOk result (IsAsked (W.was_asked watch.new) problem.now) }
 {

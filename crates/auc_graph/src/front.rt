@@ -1,6 +1,7 @@
 //! Numbers at the front of a text that goes on after them.
 
-ghost use Rattle.std.specs.Prelude.{◌≡◌, ◌+◌, ◌-◌, ◌≤◌, ◌<◌, ◌∷◌, ◌++◌, List, ℕ, true, false, length, drop, pos, neg_ℤ, ◌≤ℤ◌, IfSome, IfNone};
+ghost use Rattle.std.specs.Prelude.{◌≡◌, ◌+◌, ◌-◌, ◌≤◌, ◌<◌, ◌∷◌, ◌++◌, List, ℕ, true, false, length, drop, pos, neg_ℤ};
+ghost use Rattle.std.specs.Prelude.{◌≤ℤ◌, IfSome, IfNone};
 ghost use Rattle.std.specs.Char.{is_ascii_digit};
 ghost use Rattle.std.specs.List.{prefix_len};
 ghost use Rattle.auc_graph.specs.declared.number.Number.TheVariants.{Value};
@@ -71,7 +72,8 @@ pub(crate) fn short_number_at(separators: Separators, bytes: &[u8; SHORT]) -> Op
 /// The short number at the front, and the text after the separator that follows it.
 #[inline(always)]
 pub(crate) fn short_number(separators: Separators, bytes: &[u8]) -> Option<(u32, &[u8])>
-    ensures found { IfSome result (λ x. (more : List ℕ) → numbers (bytes.now ++ more) ≡ Value (pos x.0) ∷ numbers (x.1.now ++ more)) }
+    ensures found { IfSome result (λ x. (more : List ℕ) → numbers (bytes.now ++ more)
+        ≡ Value (pos x.0) ∷ numbers (x.1.now ++ more)) }
     ensures small { IfSome result (λ x. x.0 < 10000000) }
     ensures shorter { IfSome result (λ x. length x.1.now < length bytes.now) }
     ensures behind { IfSome result (λ x. x.1.now ≡ drop (length bytes.now - length x.1.now) bytes.now) }
@@ -116,7 +118,8 @@ fn signed_of(negative: bool, size: u32) -> i64
 /// follows it.
 #[inline(always)]
 fn long_cost(bytes: &[u8]) -> Option<(i64, &[u8])>
-    ensures found { IfSome result (λ x. (more : List ℕ) → numbers (bytes.now ++ more) ≡ Value x.0 ∷ numbers (x.1.now ++ more)) }
+    ensures found { IfSome result (λ x. (more : List ℕ) → numbers (bytes.now ++ more)
+        ≡ Value x.0 ∷ numbers (x.1.now ++ more)) }
     ensures low { IfSome result (λ x. neg_ℤ MOST_COST ≤ℤ x.0) }
     ensures high { IfSome result (λ x. x.0 ≤ℤ MOST_COST) }
     ensures shorter { IfSome result (λ x. length x.1.now < length bytes.now) }
@@ -137,7 +140,8 @@ fn long_cost(bytes: &[u8]) -> Option<(i64, &[u8])>
 /// The same. Most costs are short and have no sign, so these are read by the loop of short numbers.
 #[inline(always)]
 pub(crate) fn cost_at(bytes: &[u8]) -> Option<(i64, &[u8])>
-    ensures found { IfSome result (λ x. (more : List ℕ) → numbers (bytes.now ++ more) ≡ Value x.0 ∷ numbers (x.1.now ++ more)) }
+    ensures found { IfSome result (λ x. (more : List ℕ) → numbers (bytes.now ++ more)
+        ≡ Value x.0 ∷ numbers (x.1.now ++ more)) }
     ensures low { IfSome result (λ x. neg_ℤ MOST_COST ≤ℤ x.0) }
     ensures high { IfSome result (λ x. x.0 ≤ℤ MOST_COST) }
     ensures shorter { IfSome result (λ x. length x.1.now < length bytes.now) }
@@ -153,7 +157,8 @@ pub(crate) fn cost_at(bytes: &[u8]) -> Option<(i64, &[u8])>
 #[cold]
 #[inline(never)]
 fn any_whole(bytes: &[u8]) -> Option<(Number, &[u8])>
-    ensures found { IfSome result (λ x. (more : List ℕ) → numbers (bytes.now ++ more) ≡ x.0 ∷ numbers (x.1.now ++ more)) }
+    ensures found { IfSome result (λ x. (more : List ℕ) → numbers (bytes.now ++ more)
+        ≡ x.0 ∷ numbers (x.1.now ++ more)) }
     ensures shorter { IfSome result (λ x. length x.1.now < length bytes.now) }
     ensures behind { IfSome result (λ x. x.1.now ≡ drop (length bytes.now - length x.1.now) bytes.now) }
     ensures none { IfNone result (IsPlain (drop (prefix_len is_separator bytes.now) bytes.now)) }
@@ -173,7 +178,8 @@ fn any_whole(bytes: &[u8]) -> Option<(Number, &[u8])>
 /// short, so these are read by a loop of fixed length.
 #[inline(always)]
 pub(crate) fn next_whole(bytes: &[u8]) -> Option<(Number, &[u8])>
-    ensures found { IfSome result (λ x. (more : List ℕ) → numbers (bytes.now ++ more) ≡ x.0 ∷ numbers (x.1.now ++ more)) }
+    ensures found { IfSome result (λ x. (more : List ℕ) → numbers (bytes.now ++ more)
+        ≡ x.0 ∷ numbers (x.1.now ++ more)) }
     ensures shorter { IfSome result (λ x. length x.1.now < length bytes.now) }
     ensures behind { IfSome result (λ x. x.1.now ≡ drop (length bytes.now - length x.1.now) bytes.now) }
     ensures none { IfNone result (IsPlain (drop (prefix_len is_separator bytes.now) bytes.now)) }

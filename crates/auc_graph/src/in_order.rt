@@ -1,7 +1,8 @@
 //! The layout of the rows, for arcs in the order of their persons, and the spread of their costs: one pass over the
 //! arcs, each appended to the others.
 
-ghost use Rattle.std.specs.Prelude.{◌≡◌, ◌<◌, ◌≤◌, ◌+◌, ◌*◌, ◌^◌, ◌≤ℤ◌, pos, neg_ℤ, ℕ, length, slice_index, slice_index_or, slice_range, vec_capacity, All, IfOk, IfSome};
+ghost use Rattle.std.specs.Prelude.{◌≡◌, ◌<◌, ◌≤◌, ◌+◌, ◌*◌, ◌^◌, ◌≤ℤ◌, pos, neg_ℤ, ℕ, length, slice_index};
+ghost use Rattle.std.specs.Prelude.{slice_index_or, slice_range, vec_capacity, All, IfOk, IfSome};
 ghost use Rattle.auc_graph.specs.Row.{row, IsSpread};
 ghost use Rattle.auc_graph.specs.Layout.{AreOffsets};
 ghost use Rattle.auc_graph.specs.declared.limits.TheConstants.{MOST_COST};

@@ -1,14 +1,16 @@
 //! Laws of the definitions, as contracts of functions without a body: what prices show of the cost of every assignment,
 //! and the numbers of the limits.
 
-ghost use Rattle.std.specs.Prelude.{◌≡◌, ◌+◌, ◌^◌, ◌≤◌, ◌-ℤ◌, ◌*ℤ◌, ◌≤ℤ◌, ℕ, List, ℤ, pos, neg_ℤ, length, All, FitsSigned, Ok, true};
+ghost use Rattle.std.specs.Prelude.{◌≡◌, ◌+◌, ◌^◌, ◌≤◌, ◌-ℤ◌, ◌*ℤ◌, ◌≤ℤ◌, ℕ, List, ℤ, pos, neg_ℤ, length, All};
+ghost use Rattle.std.specs.Prelude.{FitsSigned, Ok, true};
 ghost use Rattle.std.specs.Int.{w64};
 ghost use Rattle.auc_graph.specs.declared.arc.Arc.{Arc};
 ghost use Rattle.auc_graph.specs.Problem.{Problem, IsSquare, IsWithin};
 ghost use Rattle.auc_graph.specs.Reading.{objects_for, reading};
 ghost use Rattle.auc_graph.specs.Assignment.{IsAssignment, IsLeast, total, total_cost};
 ghost use Rattle.auc_graph.specs.Price.{IsPrice};
-ghost use Rattle.auc_graph.specs.Dual.{scale_of, dual, is_lower, IsLower, IsSlackRight, AreNotNegative, AreFewPriced, IsNoPriceLeft, EachHasArc};
+ghost use Rattle.auc_graph.specs.Dual.{scale_of, dual, is_lower, IsLower, IsSlackRight, AreNotNegative, AreFewPriced};
+ghost use Rattle.auc_graph.specs.Dual.{IsNoPriceLeft, EachHasArc};
 
 use crate::limits::{MOST_ARCS, MOST_COST, MOST_OBJECTS, MOST_PERSONS, MOST_PRICE, MOST_READS};
 

@@ -63,7 +63,8 @@ pub(crate) fn person_at(persons: u32, bytes: &[u8]) -> Option<WrittenPerson>
 fn behind_person(written: WrittenPerson, bytes: &[u8]) -> Option<&[u8]>
     requires { IsWritten written }
     ensures found { IfSome result
-        (λ x. (more : List ℕ) → numbers (bytes.now ++ more) ≡ Value (pos (written.person + 1)) ∷ numbers (x.now ++ more)) }
+        (λ x. (more : List ℕ) → numbers (bytes.now ++ more) ≡ Value (pos (written.person + 1)) ∷ numbers
+        (x.now ++ more)) }
     ensures shorter { IfSome result (λ x. length x.now < length bytes.now) }
     ensures behind { IfSome result (λ x. x.now ≡ drop (length bytes.now - length x.now) bytes.now) }
 {

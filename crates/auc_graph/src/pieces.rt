@@ -1,6 +1,7 @@
 //! Reading a text piece by piece.
 
-ghost use Rattle.std.specs.Prelude.{◌≡◌, ◌≢◌, ◌-◌, ◌<◌, ◌≤◌, ◌++◌, List, ℕ, length, take, drop, Ok, Err, true, false, IfOk, IfErr};
+ghost use Rattle.std.specs.Prelude.{◌≡◌, ◌≢◌, ◌-◌, ◌<◌, ◌≤◌, ◌++◌, List, ℕ, length, take, drop, Ok, Err, true, false};
+ghost use Rattle.std.specs.Prelude.{IfOk, IfErr};
 ghost use Rattle.auc_graph.specs.declared.stage.Stage.TheVariants.{AtPerson};
 ghost use Rattle.auc_graph.specs.Memory.{AnswersUnless};
 ghost use Rattle.auc_graph.specs.Pieces.{reading_at, reading_from, IsStage, IsKnown, IsPlain};
@@ -36,7 +37,8 @@ fn behind_row<'a>(
     ensures sound { IfOk result (λ _. IsStage limit (AtPerson _persons objects) arcs.new.items) }
     ensures memory { IfErr result (λ e. e ≡ ReadError.NoMemory) }
     ensures behind { IfOk result
-        (λ rest. (length rest.now ≤ length bytes.now) × (rest.now ≡ drop (length bytes.now - length rest.now) bytes.now)) }
+        (λ rest. (length rest.now ≤ length bytes.now) × (rest.now ≡ drop
+        (length bytes.now - length rest.now) bytes.now)) }
 {
     if arcs.len() >= limit as usize {
         return Ok(bytes);
@@ -73,7 +75,8 @@ fn behind_short_arcs<'a>(
     ensures sound { IfOk result (λ _. IsStage limit (AtPerson persons objects) arcs.new.items) }
     ensures memory { IfErr result (λ e. e ≡ ReadError.NoMemory) }
     ensures behind { IfOk result
-        (λ rest. (length rest.now ≤ length bytes.now) × (rest.now ≡ drop (length bytes.now - length rest.now) bytes.now)) }
+        (λ rest. (length rest.now ≤ length bytes.now) × (rest.now ≡ drop
+        (length bytes.now - length rest.now) bytes.now)) }
 {
     let mut rest = bytes;
     while let Some(written) = person_at(persons, rest) {
@@ -100,7 +103,8 @@ pub(crate) fn stage_behind(
         (λ x. (more : List ℕ) → reading_at limit first arcs.old.items (piece.now ++ more) ≡ reading_at limit x.0
         arcs.new.items (drop (length piece.now - x.1) piece.now ++ more)) }
     ensures fault { IfErr result
-        (λ e. e ≢ ReadError.NoMemory → (more : List ℕ) → reading_at limit first arcs.old.items (piece.now ++ more) ≡ Err e) }
+        (λ e. e ≢ ReadError.NoMemory → (more : List ℕ) → reading_at limit first arcs.old.items (piece.now ++ more)
+        ≡ Err e) }
     ensures sound { IfOk result (λ x. IsStage limit x.0 arcs.new.items) }
     ensures few { IfOk result (λ x. x.1 ≤ length piece.now) }
     ensures plain { IfOk result (λ x. IsPlain (drop (length piece.now - x.1) piece.now)) }

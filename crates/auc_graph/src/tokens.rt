@@ -61,7 +61,8 @@ pub(crate) fn token_len(bytes: &[u8]) -> usize
 pub fn token_at(bytes: &[u8], from: usize) -> Option<Token>
     ensures found { IfSome result (λ token. IsFirstToken bytes.now from token.start token.end) }
     ensures tokens { IfSome result
-        (λ token. tokens (drop from bytes.now) ≡ slice_range bytes.now token.start token.end ∷ tokens (drop token.end bytes.now)) }
+        (λ token. tokens (drop from bytes.now) ≡ slice_range bytes.now token.start token.end ∷ tokens
+        (drop token.end bytes.now)) }
     ensures none { IfNone result (tokens (drop from bytes.now) ≡ []) }
 {
     if from >= bytes.len() {

@@ -88,7 +88,8 @@ pub(crate) fn keep(piece: &mut [u8], start: usize, end: usize) -> usize
     requires places { (start ≤ end) × (end ≤ length piece.old) }
     requires room { MOST_KEPT ≤ length piece.old }
     requires plain { IsPlain (slice_range piece.old start end) }
-    ensures alike { (more : List ℕ) → numbers (slice_range piece.old start end ++ more) ≡ numbers (take result piece.new ++ more) }
+    ensures alike { (more : List ℕ) → numbers (slice_range piece.old start end ++ more)
+        ≡ numbers (take result piece.new ++ more) }
     ensures plain { IsPlain (take result piece.new) }
     ensures few { result ≤ MOST_KEPT }
     ensures len { length piece.new ≡ length piece.old }

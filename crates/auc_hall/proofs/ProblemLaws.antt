@@ -119,7 +119,7 @@ hall_set_of p t persons objects of s =
 abbrev listed : List Arc → RowArc → Arc
 listed arcs a = get_or arcs a.arc (record { person = 0; object = 0; cost = pos 0 })
 
-pub abbrev no_arc : RowArc
+abbrev pub no_arc : RowArc
 no_arc = record { object = 0; cost = pos 0; arc = 0 }
 
 -- each arc of the choice stands for one of its person

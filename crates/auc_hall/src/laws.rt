@@ -19,10 +19,12 @@ pub fn matchings_hold_of_the_problem()
 
 /// Where there is a Hall violator, there is no assignment.
 pub fn hall_sets_leave_no_assignment()
-    ensures { (p : Problem) (persons objects : List ℕ) → IsHallSet p persons objects → (choice : List Arc) → IsAssignment p choice → ⊥ }
+    ensures { (p : Problem) (persons objects : List ℕ) → IsHallSet p persons objects → (choice : List Arc)
+        → IsAssignment p choice → ⊥ }
 {}
 
 /// A completion leaves a full assignment as it is.
 pub fn full_assignments_stay()
-    ensures { (t : Table) (choice after : List (Option RowArc)) → AreAllPlaced t choice → IsGrown t after choice → after ≡ choice }
+    ensures { (t : Table) (choice after : List (Option RowArc)) → AreAllPlaced t choice → IsGrown t after choice
+        → after ≡ choice }
 {}

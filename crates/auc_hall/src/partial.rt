@@ -1,6 +1,7 @@
 //! A partial assignment.
 
-ghost use Rattle.std.specs.Prelude.{◌≡◌, ◌≢◌, ◌<◌, ℕ, length, All, Contains, Some, None, false, IsTrue, IfOk, IfSome, IfNone, slice_index_or, slice_set};
+ghost use Rattle.std.specs.Prelude.{◌≡◌, ◌≢◌, ◌<◌, ℕ, length, All, Contains, Some, None, false, IsTrue, IfOk, IfSome};
+ghost use Rattle.std.specs.Prelude.{IfNone, slice_index_or, slice_set};
 ghost use Rattle.auc_graph.specs.declared.rows.RowArc.{RowArc};
 ghost use Rattle.auc_hall.specs.Partial.{pick, IsFor, IsNotPlaced, MayPlace};
 ghost use Rattle.auc_hall.specs.Matched.{AreTied, IsMatched};

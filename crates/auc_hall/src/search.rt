@@ -2,7 +2,8 @@
 //!
 //! The queue of reached persons also records the paths: each entry has the place of the person before it on the path.
 
-ghost use Rattle.std.specs.Prelude.{◌≡◌, ◌<◌, ℕ, length, All, Some, None, true, false, slice_index_or, slice_get, IfOk, OnOk, IfSome, IfNone};
+ghost use Rattle.std.specs.Prelude.{◌≡◌, ◌<◌, ℕ, length, All, Some, None, true, false, slice_index_or, slice_get, IfOk};
+ghost use Rattle.std.specs.Prelude.{OnOk, IfSome, IfNone};
 ghost use Rattle.auc_graph.specs.Table.{row_of};
 ghost use Rattle.auc_hall.specs.Partial.{pick};
 ghost use Rattle.auc_hall.specs.Matched.{IsMatched};
@@ -113,7 +114,8 @@ pub(crate) fn search(
     ensures search { OnOk result (IsSearch rows.now choice.now holder.now queue.new.items seen.new) }
     ensures first { OnOk result ((e : Reached) → slice_get queue.new.items 0 ≡ Some e → e.person ≡ start) }
     ensures found { IfOk result (λ r. IfSome r (λ f. LeadsOut rows.now holder.now queue.new.items f.at f.arc)) }
-    ensures closed { IfOk result (λ r. IfNone r (AreWalked rows.now queue.new.items seen.new (length queue.new.items))) }
+    ensures closed { IfOk result (λ r. IfNone r (AreWalked rows.now queue.new.items seen.new
+        (length queue.new.items))) }
 {
     forget(seen, queue.as_slice());
     queue.clear();

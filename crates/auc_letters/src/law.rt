@@ -24,7 +24,8 @@ pub fn limits_are()
 
 /// Bids on an object never lower its price. Where nobody holds the object after them, it is unchanged.
 pub fn awards_raise_prices()
-    ensures rises { (eps : ℤ) (sale : Sale) (bids : List ABid) → IsEps eps → sale.price ≤ℤ (award_all eps sale bids).price }
+    ensures rises { (eps : ℤ) (sale : Sale) (bids : List ABid) → IsEps eps
+        → sale.price ≤ℤ (award_all eps sale bids).price }
     ensures unheld { (eps : ℤ) (sale : Sale) (bids : List ABid) → (award_all eps sale bids).holder ≡ None
         → (award_all eps sale bids) ≡ sale }
 {}

@@ -1,6 +1,7 @@
 //! The state of a box beside its lanes, and the lane whose turn it is.
 
-ghost use Rattle.std.specs.Prelude.{[], ◌≡◌, ◌≢◌, ◌+◌, ◌-◌, ◌*◌, ◌<◌, ◌≤◌, ◌^◌, ℕ, length, slice_set, MatchOption, false};
+ghost use Rattle.std.specs.Prelude.{[], ◌≡◌, ◌≢◌, ◌+◌, ◌-◌, ◌*◌, ◌<◌, ◌≤◌, ◌^◌, ℕ, length, slice_set, MatchOption};
+ghost use Rattle.std.specs.Prelude.{false};
 ghost use Rattle.auc_nodes.specs.Lists.{list_of};
 ghost use Rattle.auc_mail.specs.Pool.{IsLaneOf, box_of};
 
@@ -32,8 +33,7 @@ pub(crate) fn note_post(boxes: &mut Vec<MailBox>, at: u32, lane: u32)
         (record {
           waiting = (box_of boxes.old.items at).waiting + 1;
           last = lane;
-          giver = (box_of boxes.old.items
-              at).giver;
+          giver = (box_of boxes.old.items at).giver;
           accepting = (box_of boxes.old.items at).accepting;
         }) }
 {
@@ -51,8 +51,7 @@ pub(crate) fn note_take(boxes: &mut Vec<MailBox>, at: u32, lane: u32)
         (record {
           waiting = (box_of boxes.old.items at).waiting - 1;
           last = (box_of boxes.old.items at).last;
-          giver =
-              lane;
+          giver = lane;
           accepting = (box_of boxes.old.items at).accepting;
         }) }
 {
@@ -69,8 +68,7 @@ pub(crate) fn note_close(boxes: &mut Vec<MailBox>, at: u32)
         (record {
           waiting = (box_of boxes.old.items at).waiting;
           last = (box_of boxes.old.items at).last;
-          giver =
-              (box_of boxes.old.items at).giver;
+          giver = (box_of boxes.old.items at).giver;
           accepting = false;
         }) }
 {

@@ -1,6 +1,7 @@
 //! The bid of a person at the present prices.
 
-ghost use Rattle.std.specs.Prelude.{true, false, ◌≡◌, ◌<◌, ◌+◌, ◌*◌, ◌^◌, pos, ◌+ℤ◌, ◌-ℤ◌, ◌*ℤ◌, ◌≤ℤ◌, ◌<ℤ◌, All, length};
+ghost use Rattle.std.specs.Prelude.{true, false, ◌≡◌, ◌<◌, ◌+◌, ◌*◌, ◌^◌, pos, ◌+ℤ◌, ◌-ℤ◌, ◌*ℤ◌, ◌≤ℤ◌, ◌<ℤ◌, All};
+ghost use Rattle.std.specs.Prelude.{length};
 ghost use Rattle.auc_graph.specs.Price.{IsPrice};
 ghost use Rattle.auc_letters.specs.Price.{IsEps};
 ghost use Rattle.auc_rows.specs.Rows.{flat_row_of, scale_in};
@@ -82,7 +83,8 @@ pub(crate) fn bid_of(rows: &FlatRows, eps: i64, _person: u32, best: Best, prices
     requires prices { All IsPrice prices.now }
     requires best { IsBest (short_value (scale_in rows.now) prices.now) (flat_row_of rows.now _person) best }
     ensures raise { IsRaise (scale_in rows.now) eps prices.now (flat_row_of rows.now _person) result.arc result.amount }
-    ensures offer { IsOffer (scale_in rows.now) rows.now.spread eps prices.now (flat_row_of rows.now _person) result.arc result.amount }
+    ensures offer { IsOffer (scale_in rows.now) rows.now.spread eps prices.now
+        (flat_row_of rows.now _person) result.arc result.amount }
 {
     // Read here, so that the proof knows the invariant of the rows.
     let _ = rows.persons();

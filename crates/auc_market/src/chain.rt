@@ -25,8 +25,8 @@ fn ended_at(ended: u64, left: u64, displaced: u32) -> u64
 
 impl<'a> Market<'a> {
     /// The free person after a bid, with `left` bids left; NOBODY where nobody is free. This is the displaced person.
-    /// Where each of the last `pace.bids_before_search` bids has displaced a person, it is the free person after a search
-    /// for a path. A search is no bid.
+    /// Where each of the last `pace.bids_before_search` bids has displaced a person, it is the free person after a
+    /// search for a path. A search is no bid.
     #[inline(always)]
     pub(crate) fn freed_by(
         &mut self,

@@ -73,8 +73,10 @@ impl Holdings {
         requires person { person < length self.old.owns.items }
         requires price { (own_at self.old.owns.items person).object < length self.old.prices.items }
         requires holder { (own_at self.old.owns.items person).object < length self.old.holders.items }
-        ensures prices { self.new.prices.items ≡ set self.old.prices.items (own_at self.old.owns.items person).object (pos 0) }
-        ensures holders { self.new.holders.items ≡ set self.old.holders.items (own_at self.old.owns.items person).object NOBODY }
+        ensures prices { self.new.prices.items ≡ set self.old.prices.items (own_at self.old.owns.items person).object
+            (pos 0) }
+        ensures holders { self.new.holders.items ≡ set self.old.holders.items
+            (own_at self.old.owns.items person).object NOBODY }
         ensures owns { self.new.owns.items ≡ set self.old.owns.items person no_own }
     {
         let object = self.owns[person as usize].object as usize;
@@ -125,7 +127,8 @@ impl Holdings {
         ensures most { result ≤ until }
         ensures free { result < until → (own_at self.now.owns.items result).object ≡ NOBODY }
         ensures neither { result < until → (result ≢ person) × (result ≢ other) }
-        ensures passed { (i : ℕ) → from ≤ i → i < result → i ≢ person → i ≢ other → (own_at self.now.owns.items i).object ≢ NOBODY }
+        ensures passed { (i : ℕ) → from ≤ i → i < result → i ≢ person → i ≢ other
+            → (own_at self.now.owns.items i).object ≢ NOBODY }
     {
         for at in from..until {
             let is_free = self.owns[at as usize].object == NOBODY;

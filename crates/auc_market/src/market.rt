@@ -27,7 +27,8 @@ ghost use Rattle.auc_market.specs.Endings.{IsStart};
 ghost use Rattle.auc_market.specs.Eps.{IsEpsOf};
 ghost use Rattle.auc_market.specs.Halts.{IsHalt};
 ghost use Rattle.auc_market.specs.Market.{IsAbove, Stands, own_at};
-ghost use Rattle.auc_market.specs.Position.{AreHandedOn, Begins, IsBegun, IsBid, IsFree, IsMove, IsRefinedWhole, IsRefinement, Law};
+ghost use Rattle.auc_market.specs.Position.{AreHandedOn, Begins, IsBegun, IsBid, IsFree, IsMove, IsRefinedWhole};
+ghost use Rattle.auc_market.specs.Position.{IsRefinement, Law};
 
 use crate::augmented::Augmented;
 use crate::bid::scaled_spread;
@@ -60,9 +61,25 @@ impl<'a> Model for Market<'a> {
 
     ghost Value = { Position };
 
-    ghost view = { λ m. record { table = m.rows.now; eps = m.eps; prices = m.holdings.prices.items; holders = m.holdings.holders.items; owns = m.holdings.owns.items; has_incumbent = m.incumbent.is_whole; incumbent = m.incumbent.owns.items } };
+    ghost view = { λ m. record {
+      table = m.rows.now;
+      eps = m.eps;
+      prices = m.holdings.prices.items;
+      holders = m.holdings.holders.items;
+      owns = m.holdings.owns.items;
+      has_incumbent = m.incumbent.is_whole;
+      incumbent = m.incumbent.owns.items;
+    } };
 
-    ghost invariant = { λ m. IsMarket (record { table = m.rows.now; eps = m.eps; prices = m.holdings.prices.items; holders = m.holdings.holders.items; owns = m.holdings.owns.items; has_incumbent = m.incumbent.is_whole; incumbent = m.incumbent.owns.items }) m.lists.lists.items m.incumbent };
+    ghost invariant = { λ m. IsMarket (record {
+      table = m.rows.now;
+      eps = m.eps;
+      prices = m.holdings.prices.items;
+      holders = m.holdings.holders.items;
+      owns = m.holdings.owns.items;
+      has_incumbent = m.incumbent.is_whole;
+      incumbent = m.incumbent.owns.items;
+    }) m.lists.lists.items m.incumbent };
 }
 
 impl<'a> Market<'a> {
@@ -181,7 +198,8 @@ impl<'a> Market<'a> {
         ensures most { result ≤ until }
         ensures free { result < until → (own_at self.now.owns result).object ≡ NOBODY }
         ensures neither { result < until → (result ≢ person) × (result ≢ other) }
-        ensures passed { (i : ℕ) → from ≤ i → i < result → i ≢ person → i ≢ other → (own_at self.now.owns i).object ≢ NOBODY }
+        ensures passed { (i : ℕ) → from ≤ i → i < result → i ≢ person → i ≢ other
+            → (own_at self.now.owns i).object ≢ NOBODY }
     {
         self.holdings.free_from(from, until, person, other)
     }

@@ -87,7 +87,8 @@ impl Holdings {
     fn are_within(&self, rows: &FlatRows, eps: i64, rises: &[Rise]) -> bool
         requires eps { IsEps eps }
         requires stands { Stands rows.now any_eps self.now.prices.items self.now.holders.items self.now.owns.items }
-        ensures { IsTrue result → AreWithin rows.now eps self.now.prices.items self.now.holders.items self.now.owns.items rises.now }
+        ensures { IsTrue result → AreWithin rows.now eps self.now.prices.items self.now.holders.items
+            self.now.owns.items rises.now }
     {
         for rise in rises {
             if !self.is_within(rows, eps, self.holder_of(rise.object)) {

@@ -65,9 +65,11 @@ impl<'a> Market<'a> {
         pace: &mut Pace,
         watch: &mut W,
     ) -> Result<Ending, Halt>
-        ensures played { IfOk result (λ e. IsPlayed bids (W.has_stopped watch.old) (W.has_stopped watch.new) e self.old self.new) }
+        ensures played { IfOk result (λ e. IsPlayed bids (W.has_stopped watch.old)
+            (W.has_stopped watch.new) e self.old self.new) }
         ensures asked { IfOk result (λ e. W.was_asked watch.new ≡ true) }
-        ensures halt { IfErr result (λ h. IsHalt self.old.table h × (W.has_stopped watch.new ≡ W.has_stopped watch.old)) }
+        ensures halt { IfErr result (λ h. IsHalt self.old.table h × (W.has_stopped watch.new
+            ≡ W.has_stopped watch.old)) }
     {
         self.law();
         let eps = self.eps;
@@ -104,12 +106,14 @@ impl<'a> Market<'a> {
         watch: &mut W,
     ) -> Result<Option<Ending>, Halt>
         ensures played { IfOk result
-            (λ o. IfSome o (λ e. IsPlayed bids (W.has_stopped watch.old) (W.has_stopped watch.new) e self.old self.new)) }
+            (λ o. IfSome o (λ e. IsPlayed bids (W.has_stopped watch.old)
+            (W.has_stopped watch.new) e self.old self.new)) }
         ensures tried { IfOk result (λ o. IfNone o (IsTried bids self.old self.new)) }
         ensures going { IfOk result (λ o. IfNone o (W.has_stopped watch.new ≡ W.has_stopped watch.old)) }
         ensures asked { IfOk result (λ o. IfSome o (λ e. W.was_asked watch.new ≡ true)) }
         ensures few { IfOk result (λ o. IfNone o (few < 2 ^ 64 - 1)) }
-        ensures halt { IfErr result (λ h. IsHalt self.old.table h × (W.has_stopped watch.new ≡ W.has_stopped watch.old)) }
+        ensures halt { IfErr result (λ h. IsHalt self.old.table h × (W.has_stopped watch.new
+            ≡ W.has_stopped watch.old)) }
     {
         if few == 0 {
             self.law();

@@ -146,7 +146,8 @@ impl Holdings {
         requires square { rows.now.objects ≡ length rows.now.rows }
         requires stands { Stands rows.now any_eps self.old.prices.items self.old.holders.items self.old.owns.items }
         requires kept { Kept rows.now self.old.prices.items lists.old.lists.items }
-        ensures stands { OnOk result (Stands rows.now any_eps self.new.prices.items self.new.holders.items self.new.owns.items) }
+        ensures stands { OnOk result (Stands rows.now any_eps self.new.prices.items self.new.holders.items
+            self.new.owns.items) }
         ensures slack { IfOk result
             (λ b. b ≡ true → Stands rows.now (pos 1) self.new.prices.items self.new.holders.items self.new.owns.items) }
         ensures have { IfOk result (λ b. b ≡ true → HaveObjects (length rows.now.rows) self.new.owns.items) }

@@ -64,7 +64,8 @@ impl Holdings {
     fn seat(&mut self, rows: &FlatRows, start: &[i64], person: u32, place: u32)
         requires person { person < length rows.now.rows }
         requires start { ArePricesOf rows.now start.now }
-        requires seated { AreSeated rows.now start.now self.old.prices.items self.old.holders.items self.old.owns.items }
+        requires seated { AreSeated rows.now start.now self.old.prices.items self.old.holders.items
+            self.old.owns.items }
         requires none { (own_at self.old.owns.items person).object ≡ NOBODY }
         ensures seated { AreSeated rows.now start.now self.new.prices.items self.new.holders.items self.new.owns.items }
         ensures none { (i : ℕ) → i ≢ person → (own_at self.old.owns.items i).object ≡ NOBODY
@@ -90,7 +91,8 @@ impl Holdings {
         requires stands { Stands rows.now any_eps self.old.prices.items self.old.holders.items self.old.owns.items }
         ensures stands { Stands rows.now any_eps self.new.prices.items self.new.holders.items self.new.owns.items }
         ensures kept { AreKept self.old.prices.items self.new.prices.items }
-        ensures nobody { result ≡ false → Stands rows.now eps self.new.prices.items self.new.holders.items self.new.owns.items }
+        ensures nobody { result ≡ false → Stands rows.now eps self.new.prices.items self.new.holders.items
+            self.new.owns.items }
     {
         let mut released = false;
         for person in 0..rows.persons() {
@@ -127,7 +129,8 @@ impl Holdings {
         requires arcs { EachHasArc rows.now }
         requires eps { IsEps eps }
         requires start { ArePricesOf rows.now start.now }
-        requires seated { AreSeated rows.now start.now self.old.prices.items self.old.holders.items self.old.owns.items }
+        requires seated { AreSeated rows.now start.now self.old.prices.items self.old.holders.items
+            self.old.owns.items }
         requires none { (i : ℕ) → (own_at self.old.owns.items i).object ≡ NOBODY }
         ensures stands { Stands rows.now eps self.new.prices.items self.new.holders.items self.new.owns.items }
         ensures opened { AreOpened rows.now.objects (length rows.now.rows) start.now self.new.prices.items }
@@ -181,7 +184,8 @@ pub fn tried(
     places: &[u32],
 ) -> Result<Option<Holdings>, AllocError>
     requires start { ArePricesOf rows.now prices.now }
-    ensures stands { IfOk result (λ o. IfSome o (λ m. Stands rows.now (pos 1) m.prices.items m.holders.items m.owns.items)) }
+    ensures stands { IfOk result (λ o. IfSome o (λ m. Stands rows.now (pos 1) m.prices.items m.holders.items
+        m.owns.items)) }
     ensures have { IfOk result (λ o. IfSome o (λ m. HaveObjects (length rows.now.rows) m.owns.items)) }
 {
     let persons = rows.persons();

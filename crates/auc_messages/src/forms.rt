@@ -3,7 +3,8 @@
 //! DIMACS.
 
 ghost use Rattle.std.specs.Prelude.{◌≡◌, IsTrue};
-ghost use Rattle.auc_messages.specs.Forms.{bad_number, form_of, form_told, mark_form, packed_form, phrase_of_form, text_form, word_form};
+ghost use Rattle.auc_messages.specs.Forms.{bad_number, form_of, form_told, mark_form, packed_form, phrase_of_form};
+ghost use Rattle.auc_messages.specs.Forms.{text_form, word_form};
 ghost use Rattle.auc_messages.specs.Sentences.{is_phrase};
 
 use crate::remark::told_refusal;

@@ -2,7 +2,9 @@
 //! stands before it, and the quoted token.
 
 ghost use Rattle.std.specs.Prelude.{◌≡◌, IsTrue};
-ghost use Rattle.auc_messages.specs.Phrases.{phrase_of_certificate, phrase_of_claim, phrase_of_end, phrase_of_input, phrase_of_problem, phrase_of_reason, phrase_of_refusal, phrase_of_script, phrase_of_start, phrase_of_status};
+ghost use Rattle.auc_messages.specs.Phrases.{phrase_of_certificate, phrase_of_claim, phrase_of_end, phrase_of_input};
+ghost use Rattle.auc_messages.specs.Phrases.{phrase_of_problem, phrase_of_reason, phrase_of_refusal, phrase_of_script};
+ghost use Rattle.auc_messages.specs.Phrases.{phrase_of_start, phrase_of_status};
 ghost use Rattle.auc_messages.specs.Sentences.{is_phrase};
 
 use crate::texts;

@@ -4,7 +4,8 @@ ghost use Rattle.std.specs.Prelude.{◌≡◌, ◌≢◌, ℕ, IfSome, IsSome, I
 ghost use Rattle.auc_run.specs.declared.command.Job.{Job};
 ghost use Rattle.auc_messages.specs.Forms.{phrase_at};
 ghost use Rattle.auc_messages.specs.Phrases.{phrase_of_end, phrase_of_refusal};
-ghost use Rattle.auc_messages.specs.Remarks.{HasWords, IsRemark, IsRemarkOn, subject_of_status, told_reason, told_refusal};
+ghost use Rattle.auc_messages.specs.Remarks.{HasWords, IsRemark, IsRemarkOn, subject_of_status, told_reason};
+ghost use Rattle.auc_messages.specs.Remarks.{told_refusal};
 ghost use Rattle.auc_messages.specs.Sentences.{is_phrase};
 
 use crate::forms::{form_told, of_form};

@@ -1,7 +1,8 @@
 //! Which input a refusal is about, and where in it.
 
 ghost use Rattle.std.specs.Prelude.{◌≡◌};
-ghost use Rattle.auc_messages.specs.Spots.{last_of, spot_in_claim, spot_in_problem, spot_in_script, spot_of, subject_of, token_of_arc};
+ghost use Rattle.auc_messages.specs.Spots.{last_of, spot_in_claim, spot_in_problem, spot_in_script, spot_of};
+ghost use Rattle.auc_messages.specs.Spots.{subject_of, token_of_arc};
 
 use auc_cert::CertTextError;
 use auc_claim::{CertRefused, StartError};

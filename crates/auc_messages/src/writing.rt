@@ -3,7 +3,9 @@
 ghost use Rattle.std.specs.Prelude.{◌≡◌, ◌++◌, map};
 ghost use Rattle.std.specs.Option.{option_map};
 ghost use Rattle.auc_cert.specs.Writing.{Writes};
-ghost use Rattle.auc_messages.specs.Sentences.{place_words, quote_end, quoted_end, sentence, sentence_alone, sentence_at, sentence_numbered, sentence_of_all, sentence_on, shown_byte};
+ghost use Rattle.auc_messages.specs.Sentences.{place_words, quote_end, quoted_end, sentence, sentence_alone};
+ghost use Rattle.auc_messages.specs.Sentences.{sentence_at, sentence_numbered, sentence_of_all, sentence_on};
+ghost use Rattle.auc_messages.specs.Sentences.{shown_byte};
 
 use crate::naming::write_front;
 use crate::remark::Remark;
@@ -65,7 +67,8 @@ fn write_at<W: Write>(
     place: &Place,
     phrase: &[u8],
 ) -> Result<(), WriteFault>
-    ensures { Writes result (W.contents writer.old) (W.contents writer.new) (sentence_at name.now place.now phrase.now) }
+    ensures { Writes result (W.contents writer.old) (W.contents writer.new)
+        (sentence_at name.now place.now phrase.now) }
 {
     write_place(writer, name, place)?;
     write_quoted(writer, place, phrase)
@@ -79,7 +82,8 @@ fn write_numbered<'x, W: Write>(
     number: u64,
     phrase: &'x [u8],
 ) -> Result<(), WriteFault>
-    ensures { Writes result (W.contents writer.old) (W.contents writer.new) (sentence_numbered name.now what.now number phrase.now) }
+    ensures { Writes result (W.contents writer.old) (W.contents writer.new)
+        (sentence_numbered name.now what.now number phrase.now) }
 {
     write_front(writer, name)?;
     let parts = [

@@ -1,7 +1,8 @@
 //! Laws over every schedule, from every world that a phase begins with. The functions do nothing: their contracts are
 //! theorems, and crates above cite them. One calls the law of the mails that it rests on.
 
-ghost use Rattle.std.specs.Prelude.{ℕ, ℤ, pos, ◌<◌, ◌≤◌, ◌≤ℤ◌, ◌≡◌, ◌≢◌, ◌⊎◌, true, List, [], ◌∷◌, ◌++◌, Some, None, Contains, All, length, map};
+ghost use Rattle.std.specs.Prelude.{ℕ, ℤ, pos, ◌<◌, ◌≤◌, ◌≤ℤ◌, ◌≡◌, ◌≢◌, ◌⊎◌, true, List, [], ◌∷◌, ◌++◌, Some, None};
+ghost use Rattle.std.specs.Prelude.{Contains, All, length, map};
 ghost use Rattle.auc_graph.specs.declared.rows.RowArc.{RowArc};
 ghost use Rattle.auc_graph.specs.declared.arc.Arc.{Arc};
 ghost use Rattle.auc_graph.specs.Assignment.{IsAssignment, IsLeast, object_of};
@@ -43,7 +44,8 @@ use auc_mail::only_the_sender_is_free;
 /// A turn with the reply Nothing leaves the world as it was, and each turn is at most one step of one mail.
 pub fn turns_are_small()
     ensures nothing { (g : Phase) (w v : World) (t : Turn) → Turned g w t TurnReply.Nothing v → v ≡ w }
-    ensures one_step { (g : Phase) (w v : World) (t : Turn) (r : TurnReply) → Turned g w t r v → (name : MailName) × StepsIn w v name }
+    ensures one_step { (g : Phase) (w v : World) (t : Turn) (r : TurnReply) → Turned g w t r v → (name : MailName)
+        × StepsIn w v name }
 {}
 
 /// A turn leaves nothing open but the sender of a letter that it takes: two outcomes of one turn are the same, or each
@@ -58,7 +60,8 @@ pub fn only_the_sender_is_free_in_turns()
 /// One turn is a schedule, and one schedule after another is one.
 pub fn schedules_go_on()
     ensures one { (g : Phase) (w v : World) (t : Turn) (r : TurnReply) → Turned g w t r v → Schedule g w (t ∷ []) v }
-    ensures more { (g : Phase) (w u v : World) (ts us : List Turn) → Schedule g w ts u → Schedule g u us v → Schedule g w (ts ++ us) v }
+    ensures more { (g : Phase) (w u v : World) (ts us : List Turn) → Schedule g w ts u → Schedule g u us v
+        → Schedule g w (ts ++ us) v }
 {}
 
 /// The reached worlds: the world that a phase begins with is one, and turns and schedules lead from one to another. The
@@ -147,7 +150,8 @@ pub fn counted_holders_are_assigned()
 /// The basis of the laws of every schedule: the invariants of the world that a phase begins with are kept by each turn.
 pub fn turns_keep_invariants()
     ensures begins { (g : Phase) (w : World) → Starts g w → Kept g w }
-    ensures keeps { (g : Phase) (w v : World) (t : Turn) (r : TurnReply) → Lawful g → Kept g w → Turned g w t r v → Kept g v }
+    ensures keeps { (g : Phase) (w v : World) (t : Turn) (r : TurnReply) → Lawful g → Kept g w → Turned g w t r v
+        → Kept g v }
     ensures begins_with_room { (g : Phase) (w : World) → Starts g w → UsualNodes g w → Room g w }
     ensures keeps_room { (g : Phase) (w v : World) (t : Turn) (r : TurnReply) → Lawful g → Kept g w → Room g w
         → Turned g w t r v → Room g v }
@@ -155,7 +159,8 @@ pub fn turns_keep_invariants()
 
 /// An end stays once it is set, and it is `All` only where the hub has counted every person.
 pub fn ends_stay()
-    ensures stays { (g : Phase) (w v : World) (ts : List Turn) (e : End) → Schedule g w ts v → w.end ≡ Some e → v.end ≡ Some e }
+    ensures stays { (g : Phase) (w v : World) (ts : List Turn) (e : End) → Schedule g w ts v → w.end ≡ Some e
+        → v.end ≡ Some e }
     ensures all { (g : Phase) (v : World) → Reached g v → v.end ≡ Some End.All → v.count ≡ g.persons }
 {}
 
@@ -169,7 +174,8 @@ pub fn no_stall()
 /// The turns of a round use up work: none makes more of it, and a turn that moves leaves less, or the phase has ended
 /// after it. So the rounds end.
 pub fn rounds_use_up_work()
-    ensures never_more { (g : Phase) (w v : World) (t : Turn) (r : TurnReply) → IsOfRound t → Turned g w t r v → work g v ≤ work g w }
+    ensures never_more { (g : Phase) (w v : World) (t : Turn) (r : TurnReply) → IsOfRound t → Turned g w t r v
+        → work g v ≤ work g w }
     ensures less { (g : Phase) (w v : World) (t : Turn) → IsOfRound t → Turned g w t TurnReply.Moved v
         → (v.end ≢ None) ⊎ (work g v < work g w) }
 {}
@@ -177,7 +183,8 @@ pub fn rounds_use_up_work()
 /// The rows of a problem make a lawful phase, and the lists of all persons by shards are those that a phase begins
 /// with.
 pub fn problems_make_phases()
-    ensures lawful { (t : Table) (shards : ℕ) (eps : ℤ) → IsTable t → 0 < shards → IsEps eps → Lawful (phase_of t shards eps) }
+    ensures lawful { (t : Table) (shards : ℕ) (eps : ℤ) → IsTable t → 0 < shards → IsEps eps
+        → Lawful (phase_of t shards eps) }
     ensures idle { (g : Phase) (s i : ℕ) → occurs i (persons_of s g.shards g.persons) ≡ free_in g PersonState.Free s i }
 {}
 

@@ -1,7 +1,8 @@
 //! Lists of nodes: the ends of a list, and how two are joined.
 
 ghost use Rattle.std.specs.Prelude.{◌≡◌, ◌+◌, ◌<◌, ◌++◌, ◌^◌, length, slice_set, vec_len, vec_capacity};
-ghost use Rattle.auc_nodes.specs.Links.{CanJoin, EndsWith, IsJoined, behind, end_of, grown, links_of, items_of, nodes_from, single};
+ghost use Rattle.auc_nodes.specs.Links.{CanJoin, EndsWith, IsJoined, behind, end_of, grown, links_of, items_of};
+ghost use Rattle.auc_nodes.specs.Links.{nodes_from, single};
 
 // A place for an item, and the number of the node after it in its list.
 #[derive(Clone, Copy)]
@@ -57,7 +58,8 @@ pub(crate) fn link_behind<T: Copy>(
         (single node) (behind (end_of ends.old.items list) node) }
     ensures last { EndsWith (nodes_from (links_of nodes.old.items) (single node)) node
         → EndsWith
-        (nodes_from (links_of nodes.old.items) (end_of ends.old.items list) ++ nodes_from (links_of nodes.old.items) (single node))
+        (nodes_from (links_of nodes.old.items) (end_of ends.old.items list) ++ nodes_from (links_of nodes.old.items)
+        (single node))
         node }
     ensures items { items_of nodes.new.items ≡ items_of nodes.old.items }
     ensures room { vec_capacity nodes.new ≡ vec_capacity nodes.old }
@@ -86,7 +88,8 @@ pub(crate) fn link_fresh<T: Copy>(
     requires room { vec_len nodes.old < vec_capacity nodes.old }
     requires few { length nodes.old.items < 2 ^ 32 }
     requires list { list < length ends.old.items }
-    requires can { CanJoin (links_of (grown nodes.old.items item)) (end_of ends.old.items list) (single (length nodes.old.items)) }
+    requires can { CanJoin (links_of (grown nodes.old.items item)) (end_of ends.old.items list)
+        (single (length nodes.old.items)) }
     ensures joined { IsJoined (links_of (grown nodes.old.items item)) (links_of nodes.new.items)
         (end_of ends.old.items list) (single (length nodes.old.items))
         (behind (end_of ends.old.items list) (length nodes.old.items)) }
@@ -97,7 +100,8 @@ pub(crate) fn link_fresh<T: Copy>(
         (grown nodes.old.items item)) (single (length nodes.old.items)))
         (length nodes.old.items) }
     ensures items { items_of nodes.new.items ≡ items_of (grown nodes.old.items item) }
-    ensures ends { ends.new.items ≡ slice_set ends.old.items list (behind (end_of ends.old.items list) (length nodes.old.items)) }
+    ensures ends { ends.new.items ≡ slice_set ends.old.items list (behind (end_of ends.old.items list)
+        (length nodes.old.items)) }
     ensures room { vec_capacity nodes.new ≡ vec_capacity nodes.old }
 {
     let node = nodes.len() as u32;

@@ -1,6 +1,7 @@
 //! The pool itself, and its calls.
 
-ghost use Rattle.std.specs.Prelude.{[], ◌∷◌, ◌++◌, ◌≡◌, ◌≢◌, ◌+◌, ◌-◌, ◌<◌, ◌≤◌, List, length, slice_get, slice_set, replicate, IfOk, IfErr, OnOk, MatchResult, MatchOption};
+ghost use Rattle.std.specs.Prelude.{[], ◌∷◌, ◌++◌, ◌≡◌, ◌≢◌, ◌+◌, ◌-◌, ◌<◌, ◌≤◌, List, length, slice_get, slice_set};
+ghost use Rattle.std.specs.Prelude.{replicate, IfOk, IfErr, OnOk, MatchResult, MatchOption};
 ghost use Rattle.auc_nodes.specs.Limits.{ListsFit, NodesFit, IsRefusedFor};
 ghost use Rattle.auc_nodes.specs.Lists.{HasList, IsSound, empty_lists, free_of, list_of, used_of, with_list};
 ghost use Rattle.auc_nodes.specs.Links.{no_ends};
@@ -158,7 +159,8 @@ impl<T: Copy> NodePool<T> {
     pub fn pop_front(&mut self, list: u32) -> Option<T>
         requires { HasList self.old list }
         ensures { MatchOption result ((list_of self.old list ≡ []) × (self.new ≡ self.old))
-            (λ item. (rest : List _) × (list_of self.old list ≡ item ∷ rest) × (self.new ≡ with_list self.old list rest)) }
+            (λ item. (rest : List _) × (list_of self.old list ≡ item ∷ rest)
+            × (self.new ≡ with_list self.old list rest)) }
     {
         let ends = self.ends[list as usize];
         if ends.len == 0 {

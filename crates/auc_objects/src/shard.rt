@@ -1,11 +1,13 @@
 //! One shard of the objects.
 
-ghost use Rattle.std.specs.Prelude.{map, ◌≡◌, ◌<◌, ◌≤◌, ◌^◌, ◌*◌, pos, ◌+ℤ◌, ◌≤ℤ◌, ◌<ℤ◌, length, replicate, ◌∷◌, [], ◌↔◌, All, IfOk, IfSome, IfNone, IsTrue, Some, None};
+ghost use Rattle.std.specs.Prelude.{map, ◌≡◌, ◌<◌, ◌≤◌, ◌^◌, ◌*◌, pos, ◌+ℤ◌, ◌≤ℤ◌, ◌<ℤ◌, length, replicate, ◌∷◌, []};
+ghost use Rattle.std.specs.Prelude.{◌↔◌, All, IfOk, IfSome, IfNone, IsTrue, Some, None};
 ghost use Rattle.auc_graph.specs.Price.{IsPrice};
 ghost use Rattle.auc_letters.specs.Price.{IsEps};
 ghost use Rattle.auc_letters.specs.Routing.{to_person, to_hub, price_told};
 ghost use Rattle.auc_letters.specs.Award.{Sale, answers, bid_of};
-ghost use Rattle.auc_objects.specs.Objects.{AreObjects, Objects, IsBidIn, Owns, SameShape, after_bid, holder_of, price_of, sale_of, with_sale};
+ghost use Rattle.auc_objects.specs.Objects.{AreObjects, Objects, IsBidIn, Owns, SameShape, after_bid, holder_of};
+ghost use Rattle.auc_objects.specs.Objects.{price_of, sale_of, with_sale};
 ghost use Rattle.auc_objects.specs.Answers.{letters_of};
 ghost use Rattle.auc_objects.specs.PackedSales.{holder_in, price_in};
 
@@ -37,9 +39,23 @@ impl Model for ObjectShard {
 
     ghost Value = { Objects };
 
-    ghost view = { λ s. record { shard = s.shard; of = s.of; person_shards = s.person_shards; persons = s.persons; prices = map price_in s.sales.items; holders = map holder_in s.sales.items } };
+    ghost view = { λ s. record {
+      shard = s.shard;
+      of = s.of;
+      person_shards = s.person_shards;
+      persons = s.persons;
+      prices = map price_in s.sales.items;
+      holders = map holder_in s.sales.items;
+    } };
 
-    ghost invariant = { λ s. AreObjects (record { shard = s.shard; of = s.of; person_shards = s.person_shards; persons = s.persons; prices = map price_in s.sales.items; holders = map holder_in s.sales.items }) };
+    ghost invariant = { λ s. AreObjects (record {
+      shard = s.shard;
+      of = s.of;
+      person_shards = s.person_shards;
+      persons = s.persons;
+      prices = map price_in s.sales.items;
+      holders = map holder_in s.sales.items;
+    }) };
 }
 
 /// Objects at these prices, with no holders.
@@ -83,8 +99,7 @@ impl ObjectShard {
               of = of;
               person_shards = person_shards;
               persons = persons;
-              prices =
-                  prices.now;
+              prices = prices.now;
               holders = replicate (length prices.now) None;
             }) }
     {
@@ -238,7 +253,8 @@ impl ObjectShard {
         requires amount { IsPrice amount }
         requires eps { IsEps eps }
         ensures award { self.new ≡ after_bid self.old eps (bid_of person arc object amount) }
-        ensures letters { result.items ≡ answers self.old.person_shards eps (sale_of self.old object) (bid_of person arc object amount) }
+        ensures letters { result.items ≡ answers self.old.person_shards eps (sale_of self.old object)
+            (bid_of person arc object amount) }
         ensures shape { SameShape self.old self.new }
     {
         let bid = Bid {

@@ -20,4 +20,3 @@ part_fits p b a h i j = omega (arith, ints, h.low, h.high, i.low, i.high, j.low,
 
 pub next_fits : (p b a e : ℤ) → IsPrice p → IsValue b → IsValue a → pos 1 ≤ℤ e → e ≤ℤ pos (2 ^ 60) → FitsSigned w64 (p +ℤ (b -ℤ a) +ℤ e)
 next_fits p b a e h i j k l = omega (arith, ints, h.low, h.high, i.low, i.high, j.low, j.high)
-

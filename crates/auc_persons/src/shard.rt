@@ -2,7 +2,8 @@
 //!
 //! Its bids are in `shard/next_bid.rt`, its letters in `shard/hearing.rt`.
 
-ghost use Rattle.std.specs.Prelude.{◌≡◌, ◌≢◌, ◌<◌, ◌≤◌, ◌-◌, drop, [], ◌∷◌, ◌++◌, length, replicate, slice_set, All, IfOk};
+ghost use Rattle.std.specs.Prelude.{◌≡◌, ◌≢◌, ◌<◌, ◌≤◌, ◌-◌, drop, [], ◌∷◌, ◌++◌, length, replicate, slice_set, All};
+ghost use Rattle.std.specs.Prelude.{IfOk};
 ghost use Rattle.std.specs.VecDeque.{deque_capacity};
 ghost use Rattle.auc_letters.specs.Persons.{persons_of};
 ghost use Rattle.auc_graph.specs.Price.{IsPrice};
@@ -56,9 +57,26 @@ impl Model for PersonShard {
 
     ghost Value = { Persons };
 
-    ghost view = { λ s. record { shard = s.shard; of = s.of; object_shards = s.object_shards; bids = s.bids; copies = s.copies.items; states = s.states.items; idle = s.idle.items } };
+    ghost view = { λ s. record {
+      shard = s.shard;
+      of = s.of;
+      object_shards = s.object_shards;
+      bids = s.bids;
+      copies = s.copies.items;
+      states = s.states.items;
+      idle = s.idle.items;
+    } };
 
-    ghost invariant = { λ s. (length s.states.items ≤ deque_capacity s.idle) × ArePersons (record { shard = s.shard; of = s.of; object_shards = s.object_shards; bids = s.bids; copies = s.copies.items; states = s.states.items; idle = s.idle.items }) };
+    ghost invariant = { λ s. (length s.states.items ≤ deque_capacity s.idle)
+        × ArePersons (record {
+          shard = s.shard;
+          of = s.of;
+          object_shards = s.object_shards;
+          bids = s.bids;
+          copies = s.copies.items;
+          states = s.states.items;
+          idle = s.idle.items;
+        }) };
 }
 
 impl PersonShard {
@@ -92,8 +110,7 @@ impl PersonShard {
               of = of;
               object_shards = object_shards;
               bids = bids;
-              copies =
-                  prices.now;
+              copies = prices.now;
               states = replicate persons PersonState.Free;
               idle = persons_of shard of persons;
             }) }
@@ -148,8 +165,7 @@ impl PersonShard {
         ensures { self.new ≡ record self.old {
           idle = drop 1 self.old.idle;
           bids = self.old.bids - 1;
-          states = slice_set self.old.states (first_idle
-              self.old) (PersonState.Waits object);
+          states = slice_set self.old.states (first_idle self.old) (PersonState.Waits object);
         } }
     {
         if let Some(person) = self.idle.pop_front() {

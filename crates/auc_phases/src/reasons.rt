@@ -25,8 +25,10 @@ pub fn reason_for(fault: PersonFault) -> Why
 /// dropped.
 #[inline]
 pub fn reason_to_stop(refused: PostRefused, letter: Letter) -> Option<Why>
-    ensures some { IfSome result (λ y. (refused ≢ PostRefused.Closed) × (is_price letter ≡ false) × (y ≡ reason refused)) }
-    ensures none { IfNone result ((refused ≡ PostRefused.Closed) ⊎ ((refused ≢ PostRefused.Closed) × (is_price letter ≡ true))) }
+    ensures some { IfSome result (λ y. (refused ≢ PostRefused.Closed) × (is_price letter ≡ false)
+        × (y ≡ reason refused)) }
+    ensures none { IfNone result ((refused ≡ PostRefused.Closed) ⊎ ((refused ≢ PostRefused.Closed)
+        × (is_price letter ≡ true))) }
 {
     if let Letter::Price { .. } = letter {
         return None;

@@ -43,7 +43,8 @@ fn place_behind(line: u64, column: u64, byte: u8) -> (u64, u64)
 /// The number of tokens that begin after one more byte, and whether the text ends inside one there.
 #[inline(always)]
 fn tokens_behind(tokens: u64, inside: bool, byte: u8) -> (u64, bool)
-    ensures has { (seen : List ℕ) → length seen < 2 ^ 63 → HasTokens seen tokens inside → HasTokens (seen ++ byte ∷ []) result.0 result.1 }
+    ensures has { (seen : List ℕ) → length seen < 2 ^ 63 → HasTokens seen tokens inside
+        → HasTokens (seen ++ byte ∷ []) result.0 result.1 }
     ensures begins { tokens < result.0 → (inside ≡ false) × (is_separator byte ≡ false) × (result.0 ≡ tokens + 1) }
 {
     if is_separator_byte(byte) {

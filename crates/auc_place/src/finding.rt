@@ -35,7 +35,8 @@ fn begun(cursor: Cursor, number: u64, byte: u8) -> Finding
 /// The state after one more byte, where the token has begun before it.
 #[inline(always)]
 fn gone_on(place: Place, byte: u8) -> Finding
-    ensures { (number : ℕ) (seen : List ℕ) → IsFinding number seen (Finding.Within place) → IsFinding number (seen ++ byte ∷ []) result }
+    ensures { (number : ℕ) (seen : List ℕ) → IsFinding number seen (Finding.Within place)
+        → IsFinding number (seen ++ byte ∷ []) result }
 {
     if is_separator_byte(byte) {
         return Finding::Behind(place);
@@ -51,7 +52,8 @@ fn gone_on(place: Place, byte: u8) -> Finding
 /// The state after one more byte.
 #[inline(always)]
 fn next(finding: Finding, number: u64, byte: u8) -> Finding
-    ensures { (seen : List ℕ) → length seen < 2 ^ 63 → IsFinding number seen finding → IsFinding number (seen ++ byte ∷ []) result }
+    ensures { (seen : List ℕ) → length seen < 2 ^ 63 → IsFinding number seen finding
+        → IsFinding number (seen ++ byte ∷ []) result }
 {
     match finding {
         Finding::Before(cursor) => begun(cursor, number, byte),

@@ -43,7 +43,8 @@ pub fn find_token<R: Read>(
     // The place is that of the token in the whole text.
     ensures found { IfOk result (λ place. IfSome (R.remaining reader.old) (λ text. IsFound text number place)) }
     // Each read gave at least one byte.
-    ensures many { result ≡ Err SearchFault.TooManyReads → IfSome (R.remaining reader.old) (λ text. limit ≤ length text) }
+    ensures many { result ≡ Err SearchFault.TooManyReads → IfSome (R.remaining reader.old)
+        (λ text. limit ≤ length text) }
     // The token didn't begin among these bytes, but perhaps among the last `MOST_SHOWN` of them.
     ensures far { result ≡ Err SearchFault.TooManyReads
         → IfSome (R.remaining reader.old) (λ text. BeginsBehind text number (limit - MOST_SHOWN)) }

@@ -32,9 +32,18 @@ impl Model for FlatRows {
 
     ghost Value = { FlatTable };
 
-    ghost view = { λ r. record { objects = r.objects; spread = r.spread; rows = parts r.starts.items r.arcs.items r.persons } };
+    ghost view = { λ r. record {
+      objects = r.objects;
+      spread = r.spread;
+      rows = parts r.starts.items r.arcs.items r.persons;
+    } };
 
-    ghost invariant = { λ r. IsLaidOut r.starts.items r.arcs.items r.persons × IsFlatTable (record { objects = r.objects; spread = r.spread; rows = parts r.starts.items r.arcs.items r.persons }) };
+    ghost invariant = { λ r. IsLaidOut r.starts.items r.arcs.items r.persons
+        × IsFlatTable (record {
+          objects = r.objects;
+          spread = r.spread;
+          rows = parts r.starts.items r.arcs.items r.persons;
+        }) };
 }
 
 /// Whether there are `persons` rows, and the arcs of each lead to all `objects` objects in order.

@@ -121,7 +121,8 @@ fn verdict_of<R: Read, Q: Read>(
 ) -> Result<Valid, Refusal>
     requires { objects ≤ 20000 }
     ensures verdict { IsVerdict objects (R.remaining reader.old) (Q.remaining second.old) result }
-    ensures unread { IfSome (R.remaining reader.old) (λ file. IsErr (reading MOST_ARCS objects file) → second.new ≡ second.old) }
+    ensures unread { IfSome (R.remaining reader.old) (λ file. IsErr (reading MOST_ARCS objects file)
+        → second.new ≡ second.old) }
 {
     let problem = problem_of(alloc, reader, objects)?;
     let bytes = read_all(alloc, second, MOST_READS)?;
@@ -139,7 +140,8 @@ fn outcome_of<R: Read, Q: Read, V: Watch>(
 ) -> Result<Report, Refusal>
     requires range { IsInRange job.now }
     requires plain { IsPlain job.now }
-    ensures outcome { IsOutcome (watched (V.has_stopped watch.new) (V.was_asked watch.new)) job.now (R.remaining reader.old)
+    ensures outcome { IsOutcome (watched (V.has_stopped watch.new) (V.was_asked watch.new)) job.now
+        (R.remaining reader.old)
         (Q.remaining second.old) result }
     ensures writable { IfOk result IsWritable }
     ensures unread { IfSome (R.remaining reader.old)
@@ -185,9 +187,11 @@ fn outcome_by_threads<H: Threads + Wait + Sync, R: Read, Q: Read, G: Gate + Sync
 ) -> Result<Report, Refusal>
     requires some { 1 ≤ numbers.workers }
     requires range { IsInRange (solve_by numbers) }
-    ensures outcome { (w : Watched) → IsOutcome w (solve_by numbers) (R.remaining reader.old) (Q.remaining second.old) result }
+    ensures outcome { (w : Watched) → IsOutcome w (solve_by numbers) (R.remaining reader.old)
+        (Q.remaining second.old) result }
     ensures writable { IfOk result IsWritable }
-    ensures unread { IfSome (R.remaining reader.old) (λ file. IsErr (reading MOST_ARCS numbers.objects file) → second.new ≡ second.old) }
+    ensures unread { IfSome (R.remaining reader.old) (λ file. IsErr (reading MOST_ARCS numbers.objects file)
+        → second.new ≡ second.old) }
     ensures alone { numbers.from ≡ false → second.new ≡ second.old }
 {
     let answer = answer_in_threads(rt, alloc, reader, second, numbers, gate)?;

@@ -24,7 +24,8 @@ fn direct_answer_of<R: Read, V: Watch>(
     watch: &mut V,
 ) -> Result<Answer, Refusal>
     requires { numbers.objects ≤ 20000 }
-    ensures { IsDirectIn (watched (V.has_stopped watch.new) (V.was_asked watch.new)) numbers (R.remaining reader.old) result }
+    ensures { IsDirectIn (watched (V.has_stopped watch.new) (V.was_asked watch.new)) numbers
+        (R.remaining reader.old) result }
 {
     let problem = problem_of(alloc, reader, numbers.objects)?;
     let limits = DirectLimits { bids: numbers.bids };
@@ -42,9 +43,11 @@ fn direct_answer_from<R: Read, Q: Read, V: Watch>(
 ) -> Result<Answer, Refusal>
     requires objects { numbers.objects ≤ 20000 }
     requires direct { numbers.direct ≡ true }
-    ensures from { IsSolvedFromIn (watched (V.has_stopped watch.new) (V.was_asked watch.new)) numbers (R.remaining reader.old)
+    ensures from { IsSolvedFromIn (watched (V.has_stopped watch.new) (V.was_asked watch.new)) numbers
+        (R.remaining reader.old)
         (Q.remaining second.old) result }
-    ensures unread { IfSome (R.remaining reader.old) (λ file. IsErr (reading MOST_ARCS numbers.objects file) → second.new ≡ second.old) }
+    ensures unread { IfSome (R.remaining reader.old) (λ file. IsErr (reading MOST_ARCS numbers.objects file)
+        → second.new ≡ second.old) }
 {
     let started = started_of(alloc, reader, second, numbers.objects, true)?;
     let limits = DirectLimits { bids: numbers.bids };
@@ -64,9 +67,11 @@ pub(crate) fn answer_alone<R: Read, Q: Read, V: Watch>(
 ) -> Result<Answer, Refusal>
     requires objects { numbers.objects ≤ 20000 }
     requires plain { numbers.workers ≡ 0 }
-    ensures solving { IsSolvingIn (watched (V.has_stopped watch.new) (V.was_asked watch.new)) numbers (R.remaining reader.old)
+    ensures solving { IsSolvingIn (watched (V.has_stopped watch.new) (V.was_asked watch.new)) numbers
+        (R.remaining reader.old)
         (Q.remaining second.old) result }
-    ensures unread { IfSome (R.remaining reader.old) (λ file. IsErr (reading MOST_ARCS numbers.objects file) → second.new ≡ second.old) }
+    ensures unread { IfSome (R.remaining reader.old) (λ file. IsErr (reading MOST_ARCS numbers.objects file)
+        → second.new ≡ second.old) }
     ensures alone { numbers.from ≡ false → second.new ≡ second.old }
 {
     if !numbers.direct {

@@ -55,7 +55,8 @@ pub fn read_all<R: Read>(alloc: Global, reader: &mut R, limit: u32) -> Result<Ve
     ensures whole { IfOk result (λ v. IfSome (R.remaining reader.old) (λ bytes. v.items ≡ bytes)) }
     ensures end { OnOk result (IsAtEnd (R.remaining reader.new)) }
     // Each read gave at least one byte.
-    ensures many { result ≡ Err ReadFault.TooManyReads → IfSome (R.remaining reader.old) (λ bytes. limit ≤ length bytes) }
+    ensures many { result ≡ Err ReadFault.TooManyReads → IfSome (R.remaining reader.old)
+        (λ bytes. limit ≤ length bytes) }
 {
     let mut piece = vec![in alloc; 0u8; PIECE]?;
     read_by_pieces(alloc, reader, limit, piece.as_mut_slice())
@@ -72,7 +73,8 @@ fn read_by_pieces<R: Read>(
     requires room { 0 < length piece.old }
     ensures whole { IfOk result (λ v. IfSome (R.remaining reader.old) (λ bytes. v.items ≡ bytes)) }
     ensures end { OnOk result (IsAtEnd (R.remaining reader.new)) }
-    ensures many { result ≡ Err ReadFault.TooManyReads → IfSome (R.remaining reader.old) (λ bytes. limit ≤ length bytes) }
+    ensures many { result ≡ Err ReadFault.TooManyReads → IfSome (R.remaining reader.old)
+        (λ bytes. limit ≤ length bytes) }
 {
     let mut all = Vec::new(alloc);
     for _done in 0..limit {

@@ -3,7 +3,8 @@
 ghost use Rattle.std.specs.Prelude.{◌+◌};
 ghost use Rattle.auc_cert.specs.Writing.{Writes, counted};
 ghost use Rattle.auc_run.specs.declared.valid.Valid.TheVariants.{Optimal, Bracket, Infeasible};
-ghost use Rattle.auc_run.specs.Lines.{input_line, problem_line, certificate_line, claim_line, start_line, script_line, refusal_line, valid_line};
+ghost use Rattle.auc_run.specs.Lines.{input_line, problem_line, certificate_line, claim_line, start_line, script_line};
+ghost use Rattle.auc_run.specs.Lines.{refusal_line, valid_line};
 
 use crate::input::ReadFault;
 use crate::refusal::Refusal;

@@ -1,7 +1,8 @@
 //! Why a job was refused.
 
 ghost use Rattle.std.specs.Prelude.{◌≡◌};
-ghost use Rattle.auc_run.specs.declared.refusal.Refusal.TheVariants.{NotRead, NoProblem, NoCertificate, Invalid, NoStart, NoScript, NoMemory, NoThreads};
+ghost use Rattle.auc_run.specs.declared.refusal.Refusal.TheVariants.{NotRead, NoProblem, NoCertificate, Invalid};
+ghost use Rattle.auc_run.specs.declared.refusal.Refusal.TheVariants.{NoStart, NoScript, NoMemory, NoThreads};
 ghost use Rattle.auc_run.specs.Refusals.{refusal_of_run};
 
 use crate::input::ReadFault;

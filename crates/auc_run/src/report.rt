@@ -4,7 +4,8 @@ ghost use Rattle.std.specs.Prelude.{◌≡◌, ◌≢◌, ◌<◌, IfOk};
 ghost use Rattle.std.specs.Io.KnownBytes.{Appends};
 ghost use Rattle.auc_cert.specs.Writing.{Begins, Writes};
 ghost use Rattle.auc_run.specs.Statuses.{refusal_status};
-ghost use Rattle.auc_run.specs.Reports.{IsWritable, outcome_status, outcome_text, reason_in, reason_of, reason_of_answer, refusal_of, report_status, report_text};
+ghost use Rattle.auc_run.specs.Reports.{IsWritable, outcome_status, outcome_text, reason_in, reason_of};
+ghost use Rattle.auc_run.specs.Reports.{reason_of_answer, refusal_of, report_status, report_text};
 
 use crate::ending::Ending;
 use crate::found::Found;

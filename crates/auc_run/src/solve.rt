@@ -5,7 +5,8 @@ ghost use Rattle.std.specs.Prelude.{◌≡◌, ◌≤◌, false, IfSome, IsErr};
 ghost use Rattle.auc_cert.specs.Writing.{Writes};
 ghost use Rattle.auc_graph.specs.Reading.{reading};
 ghost use Rattle.auc_run.specs.Jobs.{IsInRange, solve_by};
-ghost use Rattle.auc_run.specs.Solutions.{IsSolvedByThreadsIn, IsSolvedIn, Watched, answer_text, guard_line, limits_of, thread_limits_of};
+ghost use Rattle.auc_run.specs.Solutions.{IsSolvedByThreadsIn, IsSolvedIn, Watched, answer_text, guard_line, limits_of};
+ghost use Rattle.auc_run.specs.Solutions.{thread_limits_of};
 ghost use Rattle.auc_run.specs.Starts.{IsSolvedFromIn, IsSolvingIn};
 
 use crate::command::SolveNumbers;
@@ -56,7 +57,8 @@ fn answer_from<R: Read, Q: Read>(
     requires plain { numbers.workers ≡ 0 }
     requires messages { numbers.direct ≡ false }
     ensures from { (w : Watched) → IsSolvedFromIn w numbers (R.remaining reader.old) (Q.remaining second.old) result }
-    ensures unread { IfSome (R.remaining reader.old) (λ file. IsErr (reading MOST_ARCS numbers.objects file) → second.new ≡ second.old) }
+    ensures unread { IfSome (R.remaining reader.old) (λ file. IsErr (reading MOST_ARCS numbers.objects file)
+        → second.new ≡ second.old) }
 {
     let started = started_of(alloc, reader, second, numbers.objects, false)?;
     let limits = serial_limits(numbers.bids);
@@ -77,7 +79,8 @@ pub(crate) fn answer_plainly<R: Read, Q: Read>(
     requires plain { numbers.workers ≡ 0 }
     requires messages { numbers.direct ≡ false }
     ensures solving { (w : Watched) → IsSolvingIn w numbers (R.remaining reader.old) (Q.remaining second.old) result }
-    ensures unread { IfSome (R.remaining reader.old) (λ file. IsErr (reading MOST_ARCS numbers.objects file) → second.new ≡ second.old) }
+    ensures unread { IfSome (R.remaining reader.old) (λ file. IsErr (reading MOST_ARCS numbers.objects file)
+        → second.new ≡ second.old) }
     ensures alone { numbers.from ≡ false → second.new ≡ second.old }
 {
     if numbers.from {
@@ -133,7 +136,8 @@ fn answer_by_threads_from<H: Threads + Wait + Sync, R: Read, Q: Read, G: Gate + 
     requires some { 1 ≤ numbers.workers }
     requires range { IsInRange (solve_by numbers) }
     ensures from { (w : Watched) → IsSolvedFromIn w numbers (R.remaining reader.old) (Q.remaining second.old) result }
-    ensures unread { IfSome (R.remaining reader.old) (λ file. IsErr (reading MOST_ARCS numbers.objects file) → second.new ≡ second.old) }
+    ensures unread { IfSome (R.remaining reader.old) (λ file. IsErr (reading MOST_ARCS numbers.objects file)
+        → second.new ≡ second.old) }
 {
     let started = started_of(alloc, reader, second, numbers.objects, false)?;
     let limits = thread_limits(numbers);
@@ -155,7 +159,8 @@ pub(crate) fn answer_in_threads<H: Threads + Wait + Sync, R: Read, Q: Read, G: G
     requires some { 1 ≤ numbers.workers }
     requires range { IsInRange (solve_by numbers) }
     ensures solving { (w : Watched) → IsSolvingIn w numbers (R.remaining reader.old) (Q.remaining second.old) result }
-    ensures unread { IfSome (R.remaining reader.old) (λ file. IsErr (reading MOST_ARCS numbers.objects file) → second.new ≡ second.old) }
+    ensures unread { IfSome (R.remaining reader.old) (λ file. IsErr (reading MOST_ARCS numbers.objects file)
+        → second.new ≡ second.old) }
     ensures alone { numbers.from ≡ false → second.new ≡ second.old }
 {
     if numbers.from {

@@ -44,7 +44,8 @@ fn each_price(alloc: Global, objects: u32, prices: &[i64]) -> Result<Vec<i64>, S
 /// The prices of a certificate from which the direct solver may start: one for each object, whatever the picks
 /// beside them.
 fn direct_prices(alloc: Global, problem: &ArcList, cert: &Cert) -> Result<Vec<i64>, StartError>
-    ensures exact { AnswersUnless StartError.NoMemory (λ v. v.items) result (λ r. r ≡ direct_start_of problem.now cert.now) }
+    ensures exact { AnswersUnless StartError.NoMemory (λ v. v.items) result
+        (λ r. r ≡ direct_start_of problem.now cert.now) }
     ensures start { IfOk result (λ v. AreStartPrices problem.now v.items) }
 {
     match cert.parts() {
@@ -62,7 +63,8 @@ fn prices_of(
     cert: &Cert,
     direct: bool,
 ) -> Result<Vec<i64>, StartError>
-    ensures exact { AnswersUnless StartError.NoMemory (λ v. v.items) result (λ r. r ≡ start_for direct problem.now cert.now) }
+    ensures exact { AnswersUnless StartError.NoMemory (λ v. v.items) result
+        (λ r. r ≡ start_for direct problem.now cert.now) }
     ensures start { direct ≡ false → IfOk result (λ v. AreStart problem.now v.items) }
     ensures each { IfOk result (λ v. AreStartPrices problem.now v.items) }
 {
@@ -86,7 +88,8 @@ pub(crate) fn started_of<R: Read, Q: Read>(
     ensures started { IsStartIn direct objects (R.remaining reader.old) (Q.remaining second.old) result }
     ensures start { direct ≡ false → IfOk result (λ s. AreStart s.problem s.prices.items) }
     ensures each { IfOk result (λ s. AreStartPrices s.problem s.prices.items) }
-    ensures unread { IfSome (R.remaining reader.old) (λ file. IsErr (reading MOST_ARCS objects file) → second.new ≡ second.old) }
+    ensures unread { IfSome (R.remaining reader.old) (λ file. IsErr (reading MOST_ARCS objects file)
+        → second.new ≡ second.old) }
 {
     let problem = problem_of(alloc, reader, objects)?;
     let bytes = read_all(alloc, second, MOST_READS)?;

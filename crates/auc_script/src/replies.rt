@@ -54,7 +54,8 @@ fn write_letter<W: Write>(
     number: u64,
     item: i64,
 ) -> Result<(), WriteFault>
-    ensures { Writes result (W.contents writer.old) (W.contents writer.new) (reply_line (Took (Letter sender number item))) }
+    ensures { Writes result (W.contents writer.old) (W.contents writer.new)
+        (reply_line (Took (Letter sender number item))) }
 {
     let sender = Part::Place(sender as u64);
     let parts = [

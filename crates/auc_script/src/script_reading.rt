@@ -1,11 +1,13 @@
 //! Reading of a script from a text.
 
-ghost use Rattle.std.specs.Prelude.{◌≡◌, ◌≤◌, ◌<◌, ◌+◌, ◌*◌, ◌-◌, ◌^◌, ◌∷◌, [], ℕ, pos, ◌≤ℤ◌, IfSome, IfNone, IfOk, length, All};
+ghost use Rattle.std.specs.Prelude.{◌≡◌, ◌≤◌, ◌<◌, ◌+◌, ◌*◌, ◌-◌, ◌^◌, ◌∷◌, [], ℕ, pos, ◌≤ℤ◌, IfSome, IfNone, IfOk};
+ghost use Rattle.std.specs.Prelude.{length, All};
 ghost use Rattle.std.specs.Result.{result_map_both};
 ghost use Rattle.auc_graph.specs.Memory.{AnswersUnless};
 ghost use Rattle.auc_graph.specs.Tokens.{tokens};
 ghost use Rattle.auc_graph.specs.Numbers.{number};
-ghost use Rattle.auc_script.specs.Script.{command, number_in, operand, index, count, post_at, call_by, call_at, calls_from, opening, script_of, ReadsAsScript};
+ghost use Rattle.auc_script.specs.Script.{command, number_in, operand, index, count, post_at, call_by, call_at};
+ghost use Rattle.auc_script.specs.Script.{calls_from, opening, script_of, ReadsAsScript};
 ghost use Rattle.auc_mail.specs.Step.{FitsIn};
 ghost use Rattle.auc_script.specs.ScriptLimits.{most_boxes, most_nodes, most_calls};
 
@@ -60,7 +62,8 @@ fn number_within(number: Number, place: u64, least: i64, most: i64) -> Result<i6
 
 /// The operand at token `place`, from `least` to `most`, and the text after it.
 fn operand_of(bytes: &[u8], place: u64, least: i64, most: i64) -> Result<(i64, &[u8]), ScriptError>
-    ensures exact { result_map_both (λ x. (x.0, tokens x.1.now)) (λ e. e) result ≡ operand least most place (tokens bytes.now) }
+    ensures exact { result_map_both (λ x. (x.0, tokens x.1.now)) (λ e. e) result
+        ≡ operand least most place (tokens bytes.now) }
     ensures bounds { IfOk result (λ x. (least ≤ℤ x.0) × (x.0 ≤ℤ most)) }
     ensures shorter { IfOk result (λ x. length x.1.now ≤ length bytes.now) }
 {
@@ -83,7 +86,8 @@ fn index_of(bytes: &[u8], place: u64, most: u32) -> Result<(u32, &[u8]), ScriptE
 
 /// The operand at token `place`, from `least` to `most`, and the text after it.
 fn count_of(bytes: &[u8], place: u64, least: u32, most: u32) -> Result<(u32, &[u8]), ScriptError>
-    ensures exact { result_map_both (λ x. (x.0, tokens x.1.now)) (λ e. e) result ≡ count least most place (tokens bytes.now) }
+    ensures exact { result_map_both (λ x. (x.0, tokens x.1.now)) (λ e. e) result
+        ≡ count least most place (tokens bytes.now) }
     ensures bounds { IfOk result (λ x. (least ≤ x.0) × (x.0 ≤ most)) }
     ensures shorter { IfOk result (λ x. length x.1.now ≤ length bytes.now) }
 {
@@ -100,7 +104,8 @@ fn post_of(
     bytes: &[u8],
 ) -> Result<(Call<i64>, u64, &[u8]), ScriptError>
     requires { place < 2 ^ 40 }
-    ensures exact { result_map_both (λ x. ((x.0, x.1), tokens x.2.now)) (λ e. e) result ≡ post_at boxes senders place (tokens bytes.now) }
+    ensures exact { result_map_both (λ x. ((x.0, x.1), tokens x.2.now)) (λ e. e) result
+        ≡ post_at boxes senders place (tokens bytes.now) }
     ensures within { IfOk result (λ x. FitsIn senders boxes x.0) }
     ensures next { IfOk result (λ x. x.1 ≤ place + 5) }
     ensures shorter { IfOk result (λ x. length x.2.now ≤ length bytes.now) }

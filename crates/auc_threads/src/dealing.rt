@@ -135,7 +135,8 @@ fn deal_each<N: MailBrand>(
     requires shards { shard.old.person_shards ≡ task.now.limits.now.shards }
     requires known { number < N.boxes }
     requires none { said.old.items ≡ [] }
-    ensures { Deals task.now.eps (box N.room number) (taker shard.old seat.old) said.new.items (taker shard.new seat.new) result }
+    ensures { Deals task.now.eps (box N.room number) (taker shard.old seat.old) said.new.items
+        (taker shard.new seat.new) result }
 {
     for _ in 0..BATCH {
         if said.remaining_capacity() < MOST_SAID {

@@ -1,7 +1,8 @@
 //! The results of the workers of a phase: holders and prices from the shards of the objects, and the reason for which
 //! it ended.
 
-ghost use Rattle.std.specs.Prelude.{ℕ, ◌≡◌, ◌≢◌, ◌<◌, ◌%◌, ◌↔◌, ◌++◌, [], ◌∷◌, map, length, pos, Some, None, IsTrue, IfOk, IfSome, All, slice_index_or};
+ghost use Rattle.std.specs.Prelude.{ℕ, ◌≡◌, ◌≢◌, ◌<◌, ◌%◌, ◌↔◌, ◌++◌, [], ◌∷◌, map, length, pos, Some, None, IsTrue};
+ghost use Rattle.std.specs.Prelude.{IfOk, IfSome, All, slice_index_or};
 ghost use Rattle.auc_letters.specs.declared.letter.Why.{Why};
 ghost use Rattle.auc_graph.specs.Price.{IsPrice};
 ghost use Rattle.auc_model.specs.declared.turn.End.{End};
@@ -65,7 +66,8 @@ fn persons_reason<O: MailBrand, P: MailBrand, H: MailBrand>(
     works: &[PersonWork<O, P, H>],
 ) -> Option<Why>
     ensures first { result ≡ first_some (map (λ w. w.why) works.now) }
-    ensures whose { IfSome result (λ y. (k : ℕ) × (k < length works.now) × ((d : _) → (slice_index_or works.now k d).why ≡ Some y)) }
+    ensures whose { IfSome result (λ y. (k : ℕ) × (k < length works.now)
+        × ((d : _) → (slice_index_or works.now k d).why ≡ Some y)) }
 {
     for work in works {
         if let Some(why) = work.why {
@@ -95,7 +97,8 @@ fn objects_reason<O: MailBrand, P: MailBrand, H: MailBrand>(
 fn reason<O: MailBrand, P: MailBrand, H: MailBrand>(works: &Works<O, P, H>) -> Option<Why>
     requires objects { All (λ w. (w.why ≢ Some Why.Stuck) × (w.why ≢ Some Why.Fell)) works.now.objects.items }
     requires hub { (works.now.hub.why ≢ Some Why.Stuck) × (works.now.hub.why ≢ Some Why.Fell) }
-    ensures first { result ≡ first_some ((map (λ w. w.why) works.now.persons.items ++ map (λ w. w.why) works.now.objects.items)
+    ensures first { result ≡ first_some ((map (λ w. w.why) works.now.persons.items ++ map
+        (λ w. w.why) works.now.objects.items)
         ++ works.now.hub.why ∷ []) }
     ensures stuck { result ≡ Some Why.Stuck → (k : ℕ) × (k < length works.now.persons.items)
         × ((d : _) → (slice_index_or works.now.persons.items k d).why ≡ Some Why.Stuck) }
@@ -118,7 +121,8 @@ pub(crate) fn end_of<O: MailBrand, P: MailBrand, H: MailBrand>(
     requires objects { All (λ w. (w.why ≢ Some Why.Stuck) × (w.why ≢ Some Why.Fell)) works.now.objects.items }
     requires hub { (works.now.hub.why ≢ Some Why.Stuck) × (works.now.hub.why ≢ Some Why.Fell) }
     ensures is { result ≡ end_by works.now.hub.is_all (first_some
-        ((map (λ w. w.why) works.now.persons.items ++ map (λ w. w.why) works.now.objects.items) ++ works.now.hub.why ∷ [])) }
+        ((map (λ w. w.why) works.now.persons.items ++ map (λ w. w.why) works.now.objects.items) ++ works.now.hub.why
+        ∷ [])) }
     ensures all { result ≡ Some End.All ↔ IsTrue works.now.hub.is_all }
     ensures stuck { result ≡ Some (End.Stopped Why.Stuck) → (k : ℕ) × (k < length works.now.persons.items)
         × ((d : _) → (slice_index_or works.now.persons.items k d).why ≡ Some Why.Stuck) }

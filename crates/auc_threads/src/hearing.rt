@@ -69,7 +69,8 @@ fn hear_each<N: MailBrand>(
     requires shard { IsPersonShard task.now.rows.now task.now.limits.now.shards number shard.old }
     requires known { number < N.boxes }
     ensures is { IsPersonShard task.now.rows.now task.now.limits.now.shards number shard.new }
-    ensures hears { Hears (box N.room number) (taker shard.old seat.old) (taker shard.new seat.new) (result ≡ Step.Stop Why.Fell) }
+    ensures hears { Hears (box N.room number) (taker shard.old seat.old) (taker shard.new seat.new)
+        (result ≡ Step.Stop Why.Fell) }
     ensures listens { Listens (round task.now.rows.now task.now.eps) (box N.room number) (taker shard.old seat.old)
         (taker shard.new seat.new) result }
     ensures why { result ≢ Step.Stop Why.Stuck }
@@ -100,8 +101,10 @@ pub(crate) fn hear_next<O: MailBrand, P: MailBrand, H: MailBrand, R: Wait, G: Ga
     requires shard { IsPersonShard run.now.task.rows.now run.now.task.limits.now.shards number shard.old }
     requires known { number < run.now.task.limits.now.shards }
     ensures is { IsPersonShard run.now.task.rows.now run.now.task.limits.now.shards number shard.new }
-    ensures hears { Hears (box P.room number) (taker shard.old seat.old) (taker shard.new seat.new) (result ≡ Step.Stop Why.Fell) }
-    ensures listens { Listens (round run.now.task.rows.now run.now.task.eps) (box P.room number) (taker shard.old seat.old)
+    ensures hears { Hears (box P.room number) (taker shard.old seat.old) (taker shard.new seat.new)
+        (result ≡ Step.Stop Why.Fell) }
+    ensures listens { Listens (round run.now.task.rows.now run.now.task.eps) (box P.room number)
+        (taker shard.old seat.old)
         (taker shard.new seat.new) result }
     ensures why { result ≢ Step.Stop Why.Stuck }
 {

@@ -6,7 +6,8 @@ ghost use Rattle.auc_mail.specs.Limits.{NodesFit};
 ghost use Rattle.auc_book.specs.declared.limits.TheConstants.{MOST_ROOM};
 ghost use Rattle.auc_book.specs.Seat.{new_account};
 ghost use Rattle.auc_threads.specs.declared.error.RunError.TheVariants.{NoMemory};
-ghost use Rattle.auc_threads.specs.Naming.{AreBoxes, AreNamed, AreThreadLimits, IsNamed, IsUnopened, numbers, workers_of};
+ghost use Rattle.auc_threads.specs.Naming.{AreBoxes, AreNamed, AreThreadLimits, IsNamed, IsUnopened, numbers};
+ghost use Rattle.auc_threads.specs.Naming.{workers_of};
 ghost use Rattle.auc_threads.specs.Placed.{Placed};
 ghost use Rattle.auc_threads.specs.Worker.{AreNewSeats, accounts_of};
 
@@ -130,9 +131,12 @@ impl<O: MailBrand, P: MailBrand, H: MailBrand> Mails<O, P, H> {
     ) -> Result<(Mails<O, P, H>, Vec<WorkerSeats<O, P, H>>), RunError>
         requires persons { persons ≤ MOST_PERSONS }
         requires limits { AreThreadLimits limits.now }
-        requires objects_ledger { IsUnopened ledgers.objects.name O.name ledgers.objects.parts O.parts (workers_of limits.now.shards) }
-        requires persons_ledger { IsUnopened ledgers.persons.name P.name ledgers.persons.parts P.parts (workers_of limits.now.shards) }
-        requires hub_ledger { IsUnopened ledgers.hub.name H.name ledgers.hub.parts H.parts (workers_of limits.now.shards) }
+        requires objects_ledger { IsUnopened ledgers.objects.name O.name ledgers.objects.parts O.parts
+            (workers_of limits.now.shards) }
+        requires persons_ledger { IsUnopened ledgers.persons.name P.name ledgers.persons.parts P.parts
+            (workers_of limits.now.shards) }
+        requires hub_ledger { IsUnopened ledgers.hub.name H.name ledgers.hub.parts H.parts
+            (workers_of limits.now.shards) }
         requires names { AreNamed limits.now persons (numbers O.boxes O.workers O.nodes O.most O.room)
             (numbers P.boxes P.workers P.nodes P.most P.room) (numbers H.boxes H.workers H.nodes H.most H.room) }
         ensures shards { IfOk result (λ r. r.0.shards ≡ limits.now.shards) }

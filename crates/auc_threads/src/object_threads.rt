@@ -25,7 +25,8 @@ impl<O: MailBrand, P: MailBrand, H: MailBrand> Promise<ObjectWork<O, P, H>> for 
     ghost use Rattle.auc_threads.specs.Starts.{IsObjectWork};
     ghost use Rattle.auc_threads.specs.Worker.{rooms, seller_of, sold_of};
 
-    ghost kept_by = { λ p r. IsObjectWork p.eps (rooms O.room P.room H.room) (seller_of p.start.value) (sold_of r) r.why };
+    ghost kept_by = { λ p r. IsObjectWork p.eps (rooms O.room P.room H.room) (seller_of p.start.value)
+        (sold_of r) r.why };
 }
 
 /// Starts a thread for each shard of the objects. False where one couldn't be started; then no more are.

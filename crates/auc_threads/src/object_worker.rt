@@ -46,7 +46,8 @@ fn serve<O: MailBrand, P: MailBrand, H: MailBrand, R: Wait, G: Gate>(
 ) -> Step
     requires shards { worker.old.shard.person_shards ≡ run.now.task.limits.now.shards }
     requires known { number < run.now.task.limits.now.shards }
-    ensures serves { Serves run.now.task.eps (rooms O.room P.room H.room) number (seller_of worker.old) (seller_of worker.new) result }
+    ensures serves { Serves run.now.task.eps (rooms O.room P.room H.room) number (seller_of worker.old)
+        (seller_of worker.new) result }
     ensures shape { SameShape worker.old.shard worker.new.shard }
 {
     said.clear();
@@ -69,7 +70,8 @@ pub(crate) fn sell<O: MailBrand, P: MailBrand, H: MailBrand, R: Wait, G: Gate>(
     requires own { worker.shard.shard ≡ number }
     requires shards { worker.shard.person_shards ≡ run.now.task.limits.now.shards }
     requires known { number < run.now.task.limits.now.shards }
-    ensures { IsObjectWork run.now.task.eps (rooms O.room P.room H.room) (seller_of worker) (sold_of result) result.why }
+    ensures { IsObjectWork run.now.task.eps (rooms O.room P.room H.room) (seller_of worker)
+        (sold_of result) result.why }
 {
     let mut worker = worker;
     let mut said = ArrayVec::new();

@@ -29,7 +29,8 @@ impl<O: MailBrand, P: MailBrand, H: MailBrand> Promise<PersonWork<O, P, H>> for 
     ghost use Rattle.auc_threads.specs.Starts.{IsPersonWork};
     ghost use Rattle.auc_threads.specs.Worker.{bought_of, buyer_of, rooms};
 
-    ghost kept_by = { λ p r. IsPersonWork (round p.rows.value p.eps) (rooms O.room P.room H.room) (buyer_of p.start.value) (bought_of r) r.why };
+    ghost kept_by = { λ p r. IsPersonWork (round p.rows.value p.eps) (rooms O.room P.room H.room)
+        (buyer_of p.start.value) (bought_of r) r.why };
 }
 
 /// Starts a thread for each shard of the persons. False where one couldn't be started; then no more are.
@@ -67,7 +68,8 @@ pub(crate) fn start_persons<
         let PersonWorker { buyer, seats } = start;
         let work = move || -> PersonWork<O, P, H>
             requires { IsPersonShard run.now.task.rows.now run.now.task.limits.now.shards number buyer.shard
-                × Kept run.now.task.rows.now buyer.shard.copies buyer.lists × (number < run.now.task.limits.now.shards) }
+                × Kept run.now.task.rows.now buyer.shard.copies buyer.lists
+                × (number < run.now.task.limits.now.shards) }
         { buy(rt, gate, run, number, PersonWorker { buyer, seats }) };
         let Ok(handle) = scope.spawn_with(promise, work) else {
             return false;

@@ -47,7 +47,8 @@ fn finish<O: MailBrand, P: MailBrand, H: MailBrand>(
     works: Works<O, P, H>,
 ) -> Result<PhaseEnd, RunError>
     requires works { AreWorks (setting_of task.now) (rooms O.room P.room H.room) works }
-    requires names { AreNamed task.now.limits.now (length task.now.rows.now.rows) (numbers O.boxes O.workers O.nodes O.most O.room)
+    requires names { AreNamed task.now.limits.now (length task.now.rows.now.rows)
+        (numbers O.boxes O.workers O.nodes O.most O.room)
         (numbers P.boxes P.workers P.nodes P.most P.room) (numbers H.boxes H.workers H.nodes H.most H.room) }
     ensures { IfOk result (IsPhase task.now.rows.now task.now.limits.now task.now.eps task.now.prices.now) }
 {
@@ -74,10 +75,14 @@ fn named_phase<
     R: Threads + Wait + Sync,
     G: Gate + Sync,
 >(rt: &R, alloc: Global, gate: &G, task: &Task, ledgers: Ledgers) -> Result<PhaseEnd, RunError>
-    requires objects_ledger { IsUnopened ledgers.objects.name O.name ledgers.objects.parts O.parts (workers_of task.now.limits.now.shards) }
-    requires persons_ledger { IsUnopened ledgers.persons.name P.name ledgers.persons.parts P.parts (workers_of task.now.limits.now.shards) }
-    requires hub_ledger { IsUnopened ledgers.hub.name H.name ledgers.hub.parts H.parts (workers_of task.now.limits.now.shards) }
-    requires names { AreNamed task.now.limits.now (length task.now.rows.now.rows) (numbers O.boxes O.workers O.nodes O.most O.room)
+    requires objects_ledger { IsUnopened ledgers.objects.name O.name ledgers.objects.parts O.parts
+        (workers_of task.now.limits.now.shards) }
+    requires persons_ledger { IsUnopened ledgers.persons.name P.name ledgers.persons.parts P.parts
+        (workers_of task.now.limits.now.shards) }
+    requires hub_ledger { IsUnopened ledgers.hub.name H.name ledgers.hub.parts H.parts
+        (workers_of task.now.limits.now.shards) }
+    requires names { AreNamed task.now.limits.now (length task.now.rows.now.rows)
+        (numbers O.boxes O.workers O.nodes O.most O.room)
         (numbers P.boxes P.workers P.nodes P.most P.room) (numbers H.boxes H.workers H.nodes H.most H.room) }
     ensures { IfOk result (IsPhase task.now.rows.now task.now.limits.now task.now.eps task.now.prices.now) }
 {

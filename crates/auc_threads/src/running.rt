@@ -4,7 +4,8 @@ ghost use Rattle.std.specs.Prelude.{◌≡◌, ◌<◌, ◌≤◌, [], IfOk, IsT
 ghost use Rattle.auc_threads.specs.Naming.{workers_of};
 ghost use Rattle.auc_threads.specs.Counting.{Closes, Counts};
 ghost use Rattle.auc_threads.specs.Placed.{Placed};
-ghost use Rattle.auc_threads.specs.Starts.{AreBuyers, AreSellers, AreStarts, AreWorks, IsObjectPromise, IsPersonPromise};
+ghost use Rattle.auc_threads.specs.Starts.{AreBuyers, AreSellers, AreStarts, AreWorks, IsObjectPromise};
+ghost use Rattle.auc_threads.specs.Starts.{IsPersonPromise};
 ghost use Rattle.auc_threads.specs.Worker.{AreNewSeats, accounts_of, rooms, setting_of};
 
 use crate::bidding::Buyer;
@@ -174,9 +175,11 @@ fn start_all<
     requires objects_many { vec_len objects ≡ run.now.task.limits.now.shards }
     requires objects_none { handles.old.objects.items ≡ [] }
     requires objects_room { vec_len objects ≤ vec_capacity handles.old.objects }
-    ensures persons { Placed (λ k h. IsPersonPromise (setting_of run.now.task) k h.promise) 0 handles.new.persons.items }
+    ensures persons { Placed (λ k h. IsPersonPromise (setting_of run.now.task) k h.promise) 0
+        handles.new.persons.items }
     ensures persons_few { vec_len handles.new.persons ≤ run.now.task.limits.now.shards }
-    ensures objects { Placed (λ k h. IsObjectPromise (setting_of run.now.task) k h.promise) 0 handles.new.objects.items }
+    ensures objects { Placed (λ k h. IsObjectPromise (setting_of run.now.task) k h.promise) 0
+        handles.new.objects.items }
     ensures objects_few { vec_len handles.new.objects ≤ run.now.task.limits.now.shards }
     ensures persons_all { IsTrue result → vec_len handles.new.persons ≡ run.now.task.limits.now.shards }
     ensures objects_all { IsTrue result → vec_len handles.new.objects ≡ run.now.task.limits.now.shards }

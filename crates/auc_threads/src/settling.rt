@@ -57,7 +57,8 @@ pub(crate) fn seats_of<O: MailBrand, P: MailBrand, H: MailBrand>(
         (λ w. w.seats.objects) works.objects.items) ++ works.hub.seats.objects ∷ []) }
     ensures persons { IfOk result (λ a. a.persons.items ≡ (map (λ w. w.seats.persons) works.persons.items ++ map
         (λ w. w.seats.persons) works.objects.items) ++ works.hub.seats.persons ∷ []) }
-    ensures hub { IfOk result (λ a. a.hub.items ≡ (map (λ w. w.seats.hub) works.persons.items ++ map (λ w. w.seats.hub) works.objects.items)
+    ensures hub { IfOk result (λ a. a.hub.items ≡ (map (λ w. w.seats.hub) works.persons.items ++ map
+        (λ w. w.seats.hub) works.objects.items)
         ++ works.hub.seats.hub ∷ []) }
 {
     let Works {
@@ -88,8 +89,10 @@ pub(crate) fn settle_all<O: MailBrand, P: MailBrand, H: MailBrand>(
     mails: Mails<O, P, H>,
     all: AllSeats<O, P, H>,
 ) -> Option<Trails>
-    ensures objects { IfSome result (λ t. IsSettled O.boxes O.workers O.nodes O.most O.room all.objects.items t.objects) }
-    ensures persons { IfSome result (λ t. IsSettled P.boxes P.workers P.nodes P.most P.room all.persons.items t.persons) }
+    ensures objects { IfSome result (λ t. IsSettled O.boxes O.workers O.nodes O.most O.room all.objects.items
+        t.objects) }
+    ensures persons { IfSome result (λ t. IsSettled P.boxes P.workers P.nodes P.most P.room all.persons.items
+        t.persons) }
     ensures hub { IfSome result (λ t. IsSettled H.boxes H.workers H.nodes H.most H.room all.hub.items t.hub) }
 {
     let Mails {

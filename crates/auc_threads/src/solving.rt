@@ -1,6 +1,7 @@
 //! The solver in threads: epsilon scaling over phases, each in threads of its own.
 
-ghost use Rattle.std.specs.Prelude.{◌≡◌, ◌<ℤ◌, ◌↔◌, [], ◌∷◌, ◌++◌, IfOk, OnOk, IfSome, IfNone, Some, None, Option, List, ℤ};
+ghost use Rattle.std.specs.Prelude.{◌≡◌, ◌<ℤ◌, ◌↔◌, [], ◌∷◌, ◌++◌, IfOk, OnOk, IfSome, IfNone, Some, None, Option};
+ghost use Rattle.std.specs.Prelude.{List, ℤ};
 ghost use Rattle.auc_graph.specs.Table.{IsTableOf};
 ghost use Rattle.auc_claim.specs.Start.{AreStart};
 ghost use Rattle.auc_letters.specs.Price.{IsEps};

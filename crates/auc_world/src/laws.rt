@@ -1,7 +1,8 @@
 //! Laws of every world that [`World::make`] gave and turns have led to. The functions do nothing: their contracts are
 //! theorems.
 
-ghost use Rattle.std.specs.Prelude.{true, ℕ, ℤ, pos, ◌<◌, ◌≤◌, ◌≤ℤ◌, ◌≡◌, ◌≢◌, ◌⊎◌, List, [], ◌∷◌, Some, None, All, Contains, length, map};
+ghost use Rattle.std.specs.Prelude.{true, ℕ, ℤ, pos, ◌<◌, ◌≤◌, ◌≤ℤ◌, ◌≡◌, ◌≢◌, ◌⊎◌, List, [], ◌∷◌, Some, None, All};
+ghost use Rattle.std.specs.Prelude.{Contains, length, map};
 ghost use Rattle.auc_claim.specs.declared.cert.CertParts.TheVariants.{Optimal};
 ghost use Rattle.auc_claim.specs.Claim.{pick_of};
 ghost use Rattle.auc_graph.specs.declared.arc.Arc.{Arc};
@@ -47,12 +48,14 @@ impl<'a> World<'a> {
         ensures fell { (world_of self.now).end ≢ Some (End.Stopped Why.Fell) }
         ensures stray { (world_of self.now).end ≢ Some (End.Stopped Why.Stray) }
         ensures trail { (world_of self.now).end ≢ Some (End.Stopped Why.Trail) }
-        ensures mail { UsualNodes (phase self.now) (world_of self.now) → (world_of self.now).end ≢ Some (End.Stopped Why.Mail) }
+        ensures mail { UsualNodes (phase self.now) (world_of self.now)
+            → (world_of self.now).end ≢ Some (End.Stopped Why.Mail) }
         ensures hears { (s x k : ℕ) (l : Letter) (m : Mail Letter) → Takes (world_of self.now).persons_mail s x k l m
             → FitsLetter (phase self.now) (world_of self.now) s l × Rises (world_of self.now) s l }
         ensures sells { (q x k : ℕ) (l : Letter) (m : Mail Letter) → Takes (world_of self.now).objects_mail q x k l m
             → FitsBid (phase self.now) q l }
-        ensures counts { (x k : ℕ) (l : Letter) (m : Mail Letter) → Takes (world_of self.now).hub_mail 0 x k l m → IsForHub l }
+        ensures counts { (x k : ℕ) (l : Letter) (m : Mail Letter) → Takes (world_of self.now).hub_mail 0 x k l m
+            → IsForHub l }
         ensures room { UsualNodes (phase self.now) (world_of self.now) → (h : Shard) (o : Out) (rest : List Out)
             → MayPost (phase self.now) (world_of self.now) h o rest
             → Refuses (phase self.now) (world_of self.now) h o PostRefused.Full → is_price o.letter ≡ true }

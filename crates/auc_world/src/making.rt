@@ -22,7 +22,8 @@ pub(crate) fn new_person_shards(
     requires prices { All IsPrice prices.now }
     ensures many { IfOk result (λ v. length v.items ≡ shards) }
     ensures each { IfOk result
-        (λ v. (s : ℕ) → s < shards → slice_index_or v.items s no_persons ≡ new_persons shards (length rows.now.rows) bids prices.now s) }
+        (λ v. (s : ℕ) → s < shards → slice_index_or v.items s no_persons
+        ≡ new_persons shards (length rows.now.rows) bids prices.now s) }
 {
     let persons = rows.persons();
     let mut made = Vec::with_capacity(alloc, shards as usize)?;
@@ -61,7 +62,8 @@ pub(crate) fn new_object_shards(
     requires prices { All IsPrice prices.now }
     ensures many { IfOk result (λ v. length v.items ≡ shards) }
     ensures each { IfOk result
-        (λ v. (q : ℕ) → q < shards → slice_index_or v.items q no_objects ≡ new_objects shards (length rows.now.rows) prices.now q) }
+        (λ v. (q : ℕ) → q < shards → slice_index_or v.items q no_objects
+        ≡ new_objects shards (length rows.now.rows) prices.now q) }
 {
     let persons = rows.persons();
     let mut made = Vec::with_capacity(alloc, shards as usize)?;

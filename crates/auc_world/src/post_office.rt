@@ -41,7 +41,10 @@ impl Model for PostOffice {
 
     ghost Value = { Letters };
 
-    ghost view = { λ p. record { outboxes = p.outboxes.items; mails = record { objects = p.objects; persons = p.persons; hub = p.hub } } };
+    ghost view = { λ p. record {
+      outboxes = p.outboxes.items;
+      mails = record { objects = p.objects; persons = p.persons; hub = p.hub };
+    } };
 }
 
 impl PostOffice {

@@ -115,7 +115,8 @@ fn solve_rows(
     requires prices { ArePrices rows.now prices.items }
     requires begins { MayBegin rows.now eps prices.items }
     ensures is { IfOk result (IsAnswer problem.now) }
-    ensures run { (start : Option (List ℤ)) → Begins rows.now start eps prices.items → IfOk result (IsOfRun problem.now limits.now start) }
+    ensures run { (start : Option (List ℤ)) → Begins rows.now start eps prices.items
+        → IfOk result (IsOfRun problem.now limits.now start) }
 {
     // Read here, so that the proof knows the invariants of the problem and its rows.
     let _ = problem.arcs();

@@ -55,9 +55,30 @@ impl<'a> Model for World<'a> {
 
     ghost Value = { Parts };
 
-    ghost view = { λ w. record { table = w.rows.now; shards = w.shards; eps = w.eps; persons = w.persons.items; objects = w.objects.items; outboxes = w.post.outboxes; stopped = w.stopped.items; mails = w.post.mails; hub = w.hub } };
+    ghost view = { λ w. record {
+      table = w.rows.now;
+      shards = w.shards;
+      eps = w.eps;
+      persons = w.persons.items;
+      objects
+          = w.objects.items;
+      outboxes = w.post.outboxes;
+      stopped = w.stopped.items;
+      mails = w.post.mails;
+      hub = w.hub;
+    } };
 
-    ghost invariant = { λ w. AreParts (record { table = w.rows.now; shards = w.shards; eps = w.eps; persons = w.persons.items; objects = w.objects.items; outboxes = w.post.outboxes; stopped = w.stopped.items; mails = w.post.mails; hub = w.hub }) × AreKept w.rows.now w.persons.items w.bidders.items };
+    ghost invariant = { λ w. AreParts (record {
+      table = w.rows.now;
+      shards = w.shards;
+      eps = w.eps;
+      persons = w.persons.items;
+      objects = w.objects.items;
+      outboxes = w.post.outboxes;
+      stopped = w.stopped.items;
+      mails = w.post.mails;
+      hub = w.hub;
+    }) × AreKept w.rows.now w.persons.items w.bidders.items };
 }
 
 impl<'a> World<'a> {

@@ -3,7 +3,8 @@
 ghost use Rattle.std.specs.Prelude.{◌≡◌, IfOk, false};
 ghost use Rattle.clap.specs.declared.builder.command.Command.TheViews.{out-Command as fields_of};
 ghost use Rattle.clap.specs.Words.{app_of, with_rule};
-ghost use Rattle.auction.specs.Grammar.{check_grammar, hall_grammar, mail_grammar, solve_grammar, bare_grammar, grammar, flag_rule, option_rule, optioned_grammar};
+ghost use Rattle.auction.specs.Grammar.{check_grammar, hall_grammar, mail_grammar, solve_grammar, bare_grammar};
+ghost use Rattle.auction.specs.Grammar.{grammar, flag_rule, option_rule, optioned_grammar};
 
 use clap::{Arg, ArgAction, Command};
 use std::alloc::{AllocError, Global};
@@ -15,7 +16,8 @@ fn with_option<'a>(
     name: &'a str,
 ) -> Result<Command<'a>, AllocError>
     ensures shape { IfOk result (λ c. app_of c ≡ with_rule (app_of command.entry) (option_rule name.entry.now)) }
-    ensures local { (fields_of command.entry).has_globals ≡ false → IfOk result (λ c. (fields_of c).has_globals ≡ false) }
+    ensures local { (fields_of command.entry).has_globals ≡ false → IfOk result
+        (λ c. (fields_of c).has_globals ≡ false) }
 {
     command.arg(Arg::new(alloc, name).long(name))
 }
@@ -27,7 +29,8 @@ fn with_flag<'a>(
     name: &'a str,
 ) -> Result<Command<'a>, AllocError>
     ensures shape { IfOk result (λ c. app_of c ≡ with_rule (app_of command.entry) (flag_rule name.entry.now)) }
-    ensures local { (fields_of command.entry).has_globals ≡ false → IfOk result (λ c. (fields_of c).has_globals ≡ false) }
+    ensures local { (fields_of command.entry).has_globals ≡ false → IfOk result
+        (λ c. (fields_of c).has_globals ≡ false) }
 {
     let flag = Arg::new(alloc, name)
         .long(name)

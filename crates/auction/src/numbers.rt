@@ -3,7 +3,8 @@
 ghost use Rattle.std.specs.Prelude.{◌≡◌, ◌≤◌, ℕ, IfErr, IfOk, codes, is_some};
 ghost use Rattle.clap.specs.Words.{first_value, found_of};
 ghost use Rattle.auc_run.specs.Jobs.{IsInRange};
-ghost use Rattle.auction.specs.Options.{AreTogether, HasNumber, HasObjects, HasSeconds, IsNumberIn, IsSolveOf, IsWatchedBy, is_direct};
+ghost use Rattle.auction.specs.Options.{AreTogether, HasNumber, HasObjects, HasSeconds, IsNumberIn, IsSolveOf};
+ghost use Rattle.auction.specs.Options.{IsWatchedBy, is_direct};
 
 use crate::asked::{Solve, Watching};
 use crate::words_error::WordsError;
@@ -42,7 +43,8 @@ fn number_of(
 ) -> Result<u64, WordsError>
     ensures given { IfOk result (HasNumber least most usual (first_value (found_of matches.now) id.now)) }
     ensures refused { IfErr result
-        (λ e. (e ≡ WordsError.Usage) × ((n : ℕ) → ¬ HasNumber least most usual (first_value (found_of matches.now) id.now) n)) }
+        (λ e. (e ≡ WordsError.Usage) × ((n : ℕ) → ¬ HasNumber least most usual
+        (first_value (found_of matches.now) id.now) n)) }
 {
     match matches.get_str(id) {
         Some(text) => number_in(text, least, most),
@@ -54,7 +56,8 @@ fn number_of(
 pub(crate) fn objects_of(matches: &ArgMatches<'_>) -> Result<u32, WordsError>
     ensures given { IfOk result (HasObjects (first_value (found_of matches.now) (codes "objects"))) }
     ensures refused { IfErr result
-        (λ e. (e ≡ WordsError.Usage) × ((n : ℕ) → ¬ HasObjects (first_value (found_of matches.now) (codes "objects")) n)) }
+        (λ e. (e ≡ WordsError.Usage) × ((n : ℕ) → ¬ HasObjects (first_value (found_of matches.now) (codes "objects"))
+        n)) }
     ensures range { IfOk result (λ n. n ≤ 20000) }
 {
     let objects = number_of(matches, "objects", 1, MOST_OBJECTS, 0)?;
@@ -72,7 +75,8 @@ fn is_given(matches: &ArgMatches<'_>, id: &str) -> bool
 fn watching_of(matches: &ArgMatches<'_>) -> Result<Watching, WordsError>
     ensures given { IfOk result (IsWatchedBy (λ name. first_value (found_of matches.now) name)) }
     ensures refused { IfErr result
-        (λ e. (e ≡ WordsError.Usage) × ((n : ℕ) → ¬ HasSeconds (first_value (found_of matches.now) (codes "seconds")) n)) }
+        (λ e. (e ≡ WordsError.Usage) × ((n : ℕ) → ¬ HasSeconds (first_value (found_of matches.now) (codes "seconds"))
+        n)) }
 {
     let seconds = number_of(matches, "seconds", 1, MOST_SECONDS, 0)?;
     Ok(Watching {

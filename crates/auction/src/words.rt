@@ -1,13 +1,17 @@
 //! The words of the command line.
 
-ghost use Rattle.std.specs.Prelude.{◌≡◌, ◌≢◌, ◌<◌, ◌⊎◌, ℕ, List, [], Option, Some, None, IfOk, IfErr, map, option_map, codes, is_some, true, false};
+ghost use Rattle.std.specs.Prelude.{◌≡◌, ◌≢◌, ◌<◌, ◌⊎◌, ℕ, List, [], Option, Some, None, IfOk, IfErr, map, option_map};
+ghost use Rattle.std.specs.Prelude.{codes, is_some, true, false};
 ghost use Rattle.std.specs.String.{string_bytes};
-ghost use Rattle.clap.specs.Words.{Row, fault_of, first_of, first_value, found_of, rows_of, subcommand_of, subcommand_rows_of, takes};
+ghost use Rattle.clap.specs.Words.{Row, fault_of, first_of, first_value, found_of, rows_of, subcommand_of};
+ghost use Rattle.clap.specs.Words.{subcommand_rows_of, takes};
 ghost use Rattle.auc_run.specs.Jobs.{IsInRange};
 ghost use Rattle.auction.specs.Arguments.{AreCheck, AreCheckOf, AreHallOf, AreJob, AreSolve, value_in};
-ghost use Rattle.auction.specs.CommandLine.{AsksFor, IsAuditAlone, IsDirectThreads, IsFromObjects, IsUsage, IsWatchAlone};
+ghost use Rattle.auction.specs.CommandLine.{AsksFor, IsAuditAlone, IsDirectThreads, IsFromObjects, IsUsage};
+ghost use Rattle.auction.specs.CommandLine.{IsWatchAlone};
 ghost use Rattle.auction.specs.Grammar.{grammar};
-ghost use Rattle.auction.specs.Options.{AreNumbers, GoTogether, HasBoth, HasCheckOf, HasHallOf, HasObjects, HasSolveOf, HasThreads, HasWatch, IsWatchedBy, is_direct};
+ghost use Rattle.auction.specs.Options.{AreNumbers, GoTogether, HasBoth, HasCheckOf, HasHallOf, HasObjects, HasSolveOf};
+ghost use Rattle.auction.specs.Options.{HasThreads, HasWatch, IsWatchedBy, is_direct};
 
 use crate::asked::{UNWATCHED, Watching, Words};
 use crate::grammar::all_commands;
@@ -22,7 +26,8 @@ use std::alloc::{AllocError, Global};
 fn matches_of<'a>(alloc: Global, words: &'a [String]) -> Result<ArgMatches<'a>, WordsError>
     ensures found { IfOk result (λ m. subcommand_rows_of m ≡ subcommand_of grammar (map string_bytes words.entry.now)) }
     ensures faultless { IfOk result (λ m. fault_of grammar (map string_bytes words.entry.now) ≡ []) }
-    ensures taken { takes grammar (map string_bytes words.entry.now) ≡ true → IfErr result (λ e. e ≡ WordsError.NoMemory) }
+    ensures taken { takes grammar (map string_bytes words.entry.now) ≡ true
+        → IfErr result (λ e. e ≡ WordsError.NoMemory) }
     ensures refused { IfErr result (λ e. (e ≡ WordsError.Usage) ⊎ (e ≡ WordsError.NoMemory)) }
 {
     match all_commands(alloc)?.try_get_matches_from(words) {
@@ -109,11 +114,14 @@ fn solve_of(alloc: Global, matches: &ArgMatches<'_>) -> Result<Words, WordsError
 
 /// What the command that was found asks for.
 fn words_of(alloc: Global, matches: &ArgMatches<'_>) -> Result<Words, WordsError>
-    ensures check { (rows : List Row) → subcommand_rows_of matches.now ≡ Some (codes "check", rows) → HasCheckOf result rows }
-    ensures hall { (rows : List Row) → subcommand_rows_of matches.now ≡ Some (codes "hall", rows) → HasHallOf result rows }
+    ensures check { (rows : List Row) → subcommand_rows_of matches.now ≡ Some (codes "check", rows)
+        → HasCheckOf result rows }
+    ensures hall { (rows : List Row) → subcommand_rows_of matches.now ≡ Some (codes "hall", rows)
+        → HasHallOf result rows }
     ensures mail { (rows : List Row) → subcommand_rows_of matches.now ≡ Some (codes "mail", rows)
         → AsksFor Job.Mail result (first_of (codes "script") rows) None }
-    ensures solve { (rows : List Row) → subcommand_rows_of matches.now ≡ Some (codes "solve", rows) → HasSolveOf result rows }
+    ensures solve { (rows : List Row) → subcommand_rows_of matches.now ≡ Some (codes "solve", rows)
+        → HasSolveOf result rows }
     ensures range { IfOk result (λ w. IsInRange w.job) }
 {
     match matches.subcommand() {
@@ -165,10 +173,12 @@ pub fn read_words(alloc: Global, words: &[String]) -> Result<Words, WordsError>
     ensures options { (given : List (List ℕ × List ℕ)) (workers bids audit objects : ℕ)
         → AreSolve (map string_bytes words.now) given → AreNumbers (value_in given) workers bids audit objects
         → GoTogether (value_in given) workers audit
-        → AsksFor (Job.Solve workers bids audit objects (is_some (value_in given (codes "from"))) (is_direct (value_in given))) result (value_in given (codes "file")) (value_in given (codes "from")) }
+        → AsksFor (Job.Solve workers bids audit objects (is_some (value_in given (codes "from")))
+        (is_direct (value_in given))) result (value_in given (codes "file")) (value_in given (codes "from")) }
     // An option whose value is no number, or one out of range, is a fault of usage, unless memory runs out.
     ensures wrong_number { (given : List (List ℕ × List ℕ)) → AreSolve (map string_bytes words.now) given
-        → ((workers bids audit objects : ℕ) → ¬ AreNumbers (value_in given) workers bids audit objects) → IsUsage result }
+        → ((workers bids audit objects : ℕ) → ¬ AreNumbers (value_in given) workers bids audit objects)
+        → IsUsage result }
     // So is a number of objects of a check, or of a hall.
     ensures wrong_objects { (given : List (List ℕ × List ℕ)) → AreCheckOf (map string_bytes words.now) given
         ⊎ AreHallOf (map string_bytes words.now) given
@@ -184,11 +194,13 @@ pub fn read_words(alloc: Global, words: &[String]) -> Result<Words, WordsError>
     // After it, so is a start from a certificate with a number of objects.
     ensures from_objects { (given : List (List ℕ × List ℕ)) (workers bids audit objects : ℕ)
         → AreSolve (map string_bytes words.now) given → AreNumbers (value_in given) workers bids audit objects
-        → is_direct (value_in given) ≡ false → (workers ≡ 0 → audit ≡ 0) → HasBoth (value_in given) → IsFromObjects result }
+        → is_direct (value_in given) ≡ false → (workers ≡ 0 → audit ≡ 0) → HasBoth (value_in given)
+        → IsFromObjects result }
     // After these, so is one that is to be watched.
     ensures watch_alone { (given : List (List ℕ × List ℕ)) (workers bids audit objects : ℕ)
         → AreSolve (map string_bytes words.now) given → AreNumbers (value_in given) workers bids audit objects
-        → is_direct (value_in given) ≡ false → (workers ≡ 0 → audit ≡ 0) → ¬ HasBoth (value_in given) → HasWatch (value_in given) → IsWatchAlone result }
+        → is_direct (value_in given) ≡ false → (workers ≡ 0 → audit ≡ 0) → ¬ HasBoth (value_in given)
+        → HasWatch (value_in given) → IsWatchAlone result }
     // A solve is watched as its options ask: for so many seconds, and with or without progress.
     ensures watched { (given : List (List ℕ × List ℕ)) → AreSolve (map string_bytes words.now) given
         → IfOk result (λ w. IsWatchedBy (value_in given) w.watching) }

@@ -6,8 +6,8 @@ ghost use Rattle.auction.specs.declared.words_error.WordsError.TheVariants.{NoMe
 use std::alloc::{AllocError, AllocFailed};
 use thiserror::Error;
 
-/// Why the words are no job. The texts are what the program writes to standard error; that of [`WordsError::Usage`] where
-/// it can't say which argument is at fault (`wrong_words.rt`).
+/// Why the words are no job. The texts are what the program writes to standard error; that of [`WordsError::Usage`]
+/// where it can't say which argument is at fault (`wrong_words.rt`).
 #[derive(Clone, Copy, Debug, PartialEq, Eq, Error)]
 pub enum WordsError {
     /// They are none that the program knows.

@@ -102,8 +102,10 @@ fn seated<O: MailBrand, P: MailBrand, H: MailBrand>(
     ledgers: Ledgers,
 ) -> Result<usize, RunError>
     requires limits { AreThreadLimits limits.now }
-    requires objects_ledger { IsUnopened ledgers.objects.name O.name ledgers.objects.parts O.parts (workers_of limits.now.shards) }
-    requires persons_ledger { IsUnopened ledgers.persons.name P.name ledgers.persons.parts P.parts (workers_of limits.now.shards) }
+    requires objects_ledger { IsUnopened ledgers.objects.name O.name ledgers.objects.parts O.parts
+        (workers_of limits.now.shards) }
+    requires persons_ledger { IsUnopened ledgers.persons.name P.name ledgers.persons.parts P.parts
+        (workers_of limits.now.shards) }
     requires hub_ledger { IsUnopened ledgers.hub.name H.name ledgers.hub.parts H.parts (workers_of limits.now.shards) }
     requires names { AreNamed limits.now 2 (numbers O.boxes O.workers O.nodes O.most O.room)
         (numbers P.boxes P.workers P.nodes P.most P.room) (numbers H.boxes H.workers H.nodes H.most H.room) }

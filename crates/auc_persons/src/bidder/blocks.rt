@@ -36,7 +36,8 @@ impl Model for Blocks {
 
     ghost view = { λ b. map (of_blocked b.made.value) b.persons.items ++ map (of_bound b.made.value) b.bounds.items };
 
-    ghost invariant = { λ b. All (HasArcs b.made.value) b.persons.items × All (AreNumbered b.bounds.items) b.persons.items };
+    ghost invariant = { λ b. All (HasArcs b.made.value) b.persons.items
+        × All (AreNumbered b.bounds.items) b.persons.items };
 }
 
 /// The number of blocks of a row of so many arcs.

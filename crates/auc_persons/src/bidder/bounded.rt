@@ -72,7 +72,8 @@ pub(crate) fn next_within(
     requires from { from ≤ count }
     ensures low { from ≤ result }
     ensures high { result ≤ count }
-    ensures above { (b : ℕ) (d : Bound) → from ≤ b → b < result → limit <ℤ (slice_index_or bounds.now (start + b) d).least }
+    ensures above { (b : ℕ) (d : Bound) → from ≤ b → b < result → limit
+        <ℤ (slice_index_or bounds.now (start + b) d).least }
     ensures here { (d : Bound) → result < count → (slice_index_or bounds.now (start + result) d).least ≤ℤ limit }
 {
     for block in from..count {

@@ -3,7 +3,8 @@
 //! The blocks have decided the bid, so the second-best value of the whole row is known. A block whose bound is not
 //! below that of the new list has no arc for it.
 
-ghost use Rattle.std.specs.Prelude.{true, false, ◌≡◌, ◌<◌, ◌≤◌, ◌+◌, ◌^◌, [], pos, neg_ℤ, ◌<ℤ◌, ◌≤ℤ◌, IfSome, length, take};
+ghost use Rattle.std.specs.Prelude.{true, false, ◌≡◌, ◌<◌, ◌≤◌, ◌+◌, ◌^◌, [], pos, neg_ℤ, ◌<ℤ◌, ◌≤ℤ◌, IfSome, length};
+ghost use Rattle.std.specs.Prelude.{take};
 ghost use Rattle.auc_graph.specs.Table.{row_of};
 ghost use Rattle.auc_persons.specs.Blocks.{Above, AreNumbered, AreOfSame, AreRight};
 ghost use Rattle.auc_persons.specs.Candidates.{Gathered, Keeps, KeepsListed};
@@ -29,7 +30,8 @@ impl Shortlist {
         requires within { from ≤ length row.arcs.now }
         requires least { Above (value_in row) row.arcs.now from (from + 16) least }
         requires gathered { Gathered (value_in row) (take from row.arcs.now) self.old.arcs bound }
-        ensures taken { result ≡ true → Gathered (value_in row.entry) (take (from + 16) row.entry.arcs.now) self.new.arcs bound }
+        ensures taken { result ≡ true → Gathered (value_in row.entry) (take (from + 16) row.entry.arcs.now)
+            self.new.arcs bound }
         ensures none { result ≡ false → self.new.arcs ≡ [] }
         ensures bound { self.new.bound ≡ self.old.bound }
         ensures person { self.new.person ≡ self.old.person }

@@ -4,7 +4,8 @@
 //! Copies of prices never fall, so a bound of an arc's value stays one. How the bound is found doesn't change any bid;
 //! it is in `shortlist/making.rt`.
 
-ghost use Rattle.std.specs.Prelude.{false, true, ◌≡◌, ◌<◌, ◌≤◌, ◌^◌, ◌<ℤ◌, ◌≤ℤ◌, [], ◌∷◌, ◌++◌, pos, IsTrue, IfSome, length, take};
+ghost use Rattle.std.specs.Prelude.{false, true, ◌≡◌, ◌<◌, ◌≤◌, ◌^◌, ◌<ℤ◌, ◌≤ℤ◌, [], ◌∷◌, ◌++◌, pos, IsTrue, IfSome};
+ghost use Rattle.std.specs.Prelude.{length, take};
 ghost use Rattle.auc_persons.specs.Candidates.{Decides, Keeps, Listed, no_list};
 ghost use Rattle.auc_persons.specs.Scan.{IsScan, IsValue, endless};
 ghost use Rattle.auc_persons.specs.Priced.{value_in};
@@ -48,7 +49,8 @@ impl Model for Shortlist {
 
     ghost view = { λ s. record { person = s.person; bound = s.bound; arcs = take s.count s.arcs } };
 
-    ghost invariant = { λ s. (s.count ≤ 24) × (length s.arcs ≡ 24) × (pos 1 ≤ℤ s.delta) × (s.delta ≤ℤ pos (2 ^ 60)) × (s.bound ≤ℤ pos (2 ^ 62)) × (s.rises ≡ true → IsRisingRow (take s.count s.arcs)) };
+    ghost invariant = { λ s. (s.count ≤ 24) × (length s.arcs ≡ 24) × (pos 1 ≤ℤ s.delta) × (s.delta ≤ℤ pos (2 ^ 60))
+        × (s.bound ≤ℤ pos (2 ^ 62)) × (s.rises ≡ true → IsRisingRow (take s.count s.arcs)) };
 }
 
 impl Shortlist {
@@ -134,7 +136,8 @@ impl Shortlist {
     #[inline]
     pub(crate) fn listed(&self, row: PricedRow) -> Option<Scan>
         requires keeps { Keeps (value_in row) row.arcs.now self.now.arcs self.now.bound }
-        ensures found { IfSome result (λ f. Decides self.now.bound f → IsScan (value_in row.entry) row.entry.arcs.now f) }
+        ensures found { IfSome result (λ f. Decides self.now.bound f → IsScan
+            (value_in row.entry) row.entry.arcs.now f) }
         ensures some { IfSome result (IsFound (value_in row.entry) row.entry.arcs.now) }
         ensures second { IfSome result (λ f. f.second <ℤ endless → IsValue f.second) }
     {

@@ -34,7 +34,8 @@ impl<'a> SortedRow<'a> {
     #[inline(always)]
     fn value(self, place: usize) -> i64
         requires { place < length self.arcs.now }
-        ensures is { result ≡ value self.entry.scale (copy_in self.entry.copies.now) (arc_at self.entry.arcs.now place) }
+        ensures is { result ≡ value self.entry.scale (copy_in self.entry.copies.now)
+            (arc_at self.entry.arcs.now place) }
         ensures range { IsValue result }
     {
         let arc = self.arcs[place];
@@ -45,7 +46,8 @@ impl<'a> SortedRow<'a> {
     // Inlined: docs/CODEGEN.md, "A search in line" and "A list's own registers".
     #[inline(always)]
     pub fn best(self) -> Option<Scan>
-        ensures some { IfSome result (IsScan (value self.entry.scale (copy_in self.entry.copies.now)) self.entry.arcs.now) }
+        ensures some { IfSome result (IsScan (value self.entry.scale (copy_in self.entry.copies.now))
+            self.entry.arcs.now) }
         ensures none { IfNone result (self.entry.arcs.now ≡ []) }
     {
         if self.arcs.is_empty() {

@@ -3,7 +3,8 @@
 ghost use Rattle.std.specs.Prelude.{◌≡◌, ◌≢◌, ◌<◌, length, IsTrue, ◌↔◌};
 ghost use Rattle.auc_graph.specs.Price.{IsPrice};
 ghost use Rattle.auc_letters.specs.declared.state.PersonState.{PersonState};
-ghost use Rattle.auc_persons.specs.Persons.{Answered, FitsAnswer, FitsPrice, OnLetter, Priced, Raised, NeverFall, SameShape, free_after, held_after};
+ghost use Rattle.auc_persons.specs.Persons.{Answered, FitsAnswer, FitsPrice, OnLetter, Priced, Raised, NeverFall};
+ghost use Rattle.auc_persons.specs.Persons.{SameShape, free_after, held_after};
 
 use crate::bidding::PersonFault;
 use crate::shard::PersonShard;
@@ -76,7 +77,8 @@ impl PersonShard {
         wanted: PersonState,
     ) -> Result<(), PersonFault>
         requires { wanted ≢ PersonState.Free }
-        ensures exact { Answered self.old person object price wanted (free_after self.old person object price) result self.new }
+        ensures exact { Answered self.old person object price wanted (free_after self.old person object price) result
+            self.new }
         ensures rise { NeverFall self.old.copies self.new.copies }
         ensures shape { SameShape self.old self.new }
     {

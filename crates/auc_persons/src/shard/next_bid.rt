@@ -112,7 +112,8 @@ impl PersonShard {
     /// The person who has been free longest.
     #[inline]
     fn first(&self) -> Option<u32>
-        ensures some { IfSome result (λ i. (self.now.idle ≢ []) × (i ≡ first_idle self.now) × (i < length self.now.states)) }
+        ensures some { IfSome result (λ i. (self.now.idle ≢ []) × (i ≡ first_idle self.now)
+            × (i < length self.now.states)) }
         ensures none { IfNone result (self.now.idle ≡ []) }
     {
         let person = self.idle.front()?;

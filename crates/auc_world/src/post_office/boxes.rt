@@ -21,7 +21,9 @@ impl PostOffice {
         ensures some { IfSome result (λ l. TakesOne (named self.old.mails mail) at l (named self.new.mails mail)) }
         ensures none { IfNone result (TakesNone (named self.old.mails mail) at) }
         ensures still { IfNone result (self.new ≡ self.old) }
-        ensures rest { self.new ≡ record self.old { mails = with_named self.old.mails mail (named self.new.mails mail) } }
+        ensures rest { self.new ≡ record self.old {
+          mails = with_named self.old.mails mail (named self.new.mails mail);
+        } }
     {
         match self.taken(mail, at) {
             Taken::Letter { item, .. } => Some(item),
@@ -35,7 +37,9 @@ impl PostOffice {
     fn taken(&mut self, mail: MailName, at: u32) -> Taken<Letter>
         requires { HasBox (named self.old.mails mail) at }
         ensures step { Step (named self.old.mails mail) (Call.Take at) (Reply.Took result) (named self.new.mails mail) }
-        ensures rest { self.new ≡ record self.old { mails = with_named self.old.mails mail (named self.new.mails mail) } }
+        ensures rest { self.new ≡ record self.old {
+          mails = with_named self.old.mails mail (named self.new.mails mail);
+        } }
     {
         match mail {
             MailName::Objects => self.objects.take(at),
@@ -62,8 +66,11 @@ impl PostOffice {
     pub(crate) fn close(&mut self, mail: MailName, at: u32)
         requires known { HasBox (named self.old.mails mail) at }
         requires open { IsOpen (named self.old.mails mail) at }
-        ensures step { Step (named self.old.mails mail) (Call.Close at) (Reply.WasOpen true) (named self.new.mails mail) }
-        ensures rest { self.new ≡ record self.old { mails = with_named self.old.mails mail (named self.new.mails mail) } }
+        ensures step { Step (named self.old.mails mail) (Call.Close at) (Reply.WasOpen true)
+            (named self.new.mails mail) }
+        ensures rest { self.new ≡ record self.old {
+          mails = with_named self.old.mails mail (named self.new.mails mail);
+        } }
     {
         let _ = match mail {
             MailName::Objects => self.objects.close(at),

@@ -29,7 +29,8 @@ impl PostOffice {
     #[inline]
     pub(crate) fn post_first(&mut self, sender: u32) -> Posted
         requires known { sender < length self.old.outboxes }
-        requires fits { (o : Out) → StandsFirst self.old sender o → Fits (mail_for self.old.mails o) (post_of sender o) }
+        requires fits { (o : Out) → StandsFirst self.old sender o → Fits (mail_for self.old.mails o)
+            (post_of sender o) }
         ensures { Posts self.old sender result self.new }
     {
         match self.outboxes[sender as usize].first() {
@@ -74,8 +75,11 @@ impl PostOffice {
     #[inline]
     fn post(&mut self, sender: u32, out: Out) -> Result<u64, PostRefused>
         requires { Fits (mail_for self.old.mails out) (post_of sender out) }
-        ensures step { Step (mail_for self.old.mails out) (post_of sender out) (reply_to_post result) (mail_for self.new.mails out) }
-        ensures rest { self.new ≡ record self.old { mails = with_named self.old.mails (name_of out.to) (mail_for self.new.mails out) } }
+        ensures step { Step (mail_for self.old.mails out) (post_of sender out) (reply_to_post result)
+            (mail_for self.new.mails out) }
+        ensures rest { self.new ≡ record self.old {
+          mails = with_named self.old.mails (name_of out.to) (mail_for self.new.mails out);
+        } }
     {
         match out.to {
             To::Person { shard } => self.persons.post(sender, shard, out.letter, out.reserve),

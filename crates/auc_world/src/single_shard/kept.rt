@@ -1,12 +1,14 @@
 //! The state of a phase with one shard of each kind, and the steps of its rounds.
 
-ghost use Rattle.std.specs.Prelude.{ℕ, ℤ, ◌≡◌, ◌<◌, ◌≤◌, ◌+◌, ◌*◌, [], ◌∷◌, ◌++◌, None, Some, ◌-◌, length, map, replicate, drop, slice_index_or, slice_set, IsTrue, ◌↔◌, IfOk, IfSome, IfNone};
+ghost use Rattle.std.specs.Prelude.{ℕ, ℤ, ◌≡◌, ◌<◌, ◌≤◌, ◌+◌, ◌*◌, [], ◌∷◌, ◌++◌, None, Some, ◌-◌, length, map};
+ghost use Rattle.std.specs.Prelude.{replicate, drop, slice_index_or, slice_set, IsTrue, ◌↔◌, IfOk, IfSome, IfNone};
 ghost use Rattle.std.specs.VecDeque.{deque_capacity};
 ghost use Rattle.auc_letters.specs.Persons.{persons_of};
 ghost use Rattle.auc_graph.specs.Price.{IsPrice};
 ghost use Rattle.auc_letters.specs.Price.{IsEps};
 ghost use Rattle.auc_world.specs.SingleState.{first_of, freed_by, sale_at, notices_of_sale};
-ghost use Rattle.auc_world.specs.SinglePhase.{answered, begun, noted, with_sale, with_notice, without_first, without_notice};
+ghost use Rattle.auc_world.specs.SinglePhase.{answered, begun, noted, with_sale, with_notice, without_first};
+ghost use Rattle.auc_world.specs.SinglePhase.{without_notice};
 ghost use Rattle.auc_world.specs.Lots.{holder_in, price_in};
 
 use crate::single_shard::lot::Lot;
@@ -44,7 +46,16 @@ impl Model for SingleShard {
 
     ghost Value = { SingleState };
 
-    ghost view = { λ w. record { persons = w.persons; copies = w.copies.items; prices = map price_in w.lots.items; holders = map holder_in w.lots.items; notices = w.notices.items; idle = w.idle.items; bids = w.bids; count = w.count } };
+    ghost view = { λ w. record {
+      persons = w.persons;
+      copies = w.copies.items;
+      prices = map price_in w.lots.items;
+      holders = map holder_in w.lots.items;
+      notices = w.notices.items;
+      idle = w.idle.items;
+      bids = w.bids;
+      count = w.count;
+    } };
 
     ghost invariant = { λ w. (4 * w.persons ≤ deque_capacity w.notices) × (w.persons ≤ deque_capacity w.idle) };
 }
@@ -175,8 +186,10 @@ impl SingleShard {
     fn set_lot(&mut self, object: u32, price: i64, held: Held)
         requires object { object < length self.old.prices }
         requires person { held.person < 4294967295 }
-        ensures { self.new ≡ record self.old
-            { prices = slice_set self.old.prices object price; holders = slice_set self.old.holders object (Some held) } }
+        ensures { self.new ≡ record self.old {
+          prices = slice_set self.old.prices object price;
+          holders = slice_set self.old.holders object (Some held);
+        } }
     {
         self.lots[object as usize] = Lot {
             price,

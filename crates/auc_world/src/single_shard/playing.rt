@@ -18,7 +18,8 @@ use auc_persons::Bidder;
 use auc_phases::Limits;
 use std::alloc::{AllocError, Global};
 
-/// Plays a phase in whole rounds by the single-shard machine, where it may. Where all is sold, the bidder is kept for the next phase.
+/// Plays a phase in whole rounds by the single-shard machine, where it may. Where all is sold, the bidder is kept for
+/// the next phase.
 ///
 /// Takes 68 bytes of memory for each person and 24 for each object, and the holders and prices that it leaves.
 ///

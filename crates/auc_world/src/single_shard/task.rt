@@ -11,7 +11,8 @@ use auc_graph::Rows;
 use auc_phases::Limits;
 use std::marker::Model;
 
-/// The input of a phase that the single-shard machine plays. Prices and `eps` are in scaled costs, the prices by object.
+/// The input of a phase that the single-shard machine plays. Prices and `eps` are in scaled costs, the prices by
+/// object.
 #[derive(Drop)]
 pub(crate) struct Task<'a> {
     pub(crate) rows: &'a Rows,

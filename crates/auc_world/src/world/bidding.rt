@@ -27,8 +27,11 @@ impl<'a> World<'a> {
     #[inline]
     fn next_bid(&mut self, shard: u32) -> Bidding
         requires { shard < self.old.shards }
-        ensures bid { NextBid self.old.table self.old.eps (persons_at self.old shard) result (persons_at self.new shard) }
-        ensures rest { self.new ≡ record self.old { persons = slice_set self.old.persons shard (persons_at self.new shard) } }
+        ensures bid { NextBid self.old.table self.old.eps (persons_at self.old shard) result
+            (persons_at self.new shard) }
+        ensures rest { self.new ≡ record self.old {
+          persons = slice_set self.old.persons shard (persons_at self.new shard);
+        } }
     {
         let rows = self.rows;
         let eps = self.eps;

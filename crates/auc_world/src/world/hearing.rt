@@ -17,7 +17,9 @@ impl<'a> World<'a> {
     fn hear(&mut self, shard: u32, letter: Letter) -> Result<(), PersonFault>
         requires { shard < self.old.shards }
         ensures heard { OnLetter (persons_at self.old shard) letter result (persons_at self.new shard) }
-        ensures rest { self.new ≡ record self.old { persons = slice_set self.old.persons shard (persons_at self.new shard) } }
+        ensures rest { self.new ≡ record self.old {
+          persons = slice_set self.old.persons shard (persons_at self.new shard);
+        } }
     {
         let persons = &mut self.persons[shard as usize];
         persons.on_letter(letter)

@@ -31,7 +31,8 @@ impl<'a> World<'a> {
     /// A shard of the persons posts the first letter of its outbox.
     #[inline]
     pub(crate) fn person_post(&mut self, shard: u32) -> TurnReply
-        ensures turn { PostTurn (phase self.old) (world_of self.old) (Shard.PersonShard shard) result (world_of self.new) }
+        ensures turn { PostTurn (phase self.old) (world_of self.old) (Shard.PersonShard shard) result
+            (world_of self.new) }
         ensures phase { SamePhase self.old self.new }
     {
         if !self.is_shard(shard) {
@@ -43,7 +44,8 @@ impl<'a> World<'a> {
     /// A shard of the objects posts the first letter of its outbox.
     #[inline]
     pub(crate) fn object_post(&mut self, shard: u32) -> TurnReply
-        ensures turn { PostTurn (phase self.old) (world_of self.old) (Shard.ObjectShard shard) result (world_of self.new) }
+        ensures turn { PostTurn (phase self.old) (world_of self.old) (Shard.ObjectShard shard) result
+            (world_of self.new) }
         ensures phase { SamePhase self.old self.new }
     {
         if !self.is_shard(shard) {

@@ -22,7 +22,8 @@ pub(crate) fn has_moved(reply: TurnReply) -> bool
 impl<'a> World<'a> {
     /// Each shard of the persons bids and posts. Returns whether anything moved.
     fn bid_all(&mut self) -> bool
-        ensures plays { Plays (phase self.old) (world_of self.old) (bids_of self.old.shards) result (world_of self.new) }
+        ensures plays { Plays (phase self.old) (world_of self.old) (bids_of self.old.shards) result
+            (world_of self.new) }
         ensures phase { phase self.new ≡ phase self.old }
     {
         let mut moved = false;
@@ -35,7 +36,8 @@ impl<'a> World<'a> {
 
     /// Each shard of the objects takes a bid and posts its answers. Returns whether anything moved.
     fn answer_all(&mut self) -> bool
-        ensures plays { Plays (phase self.old) (world_of self.old) (answers_of self.old.shards) result (world_of self.new) }
+        ensures plays { Plays (phase self.old) (world_of self.old) (answers_of self.old.shards) result
+            (world_of self.new) }
         ensures phase { phase self.new ≡ phase self.old }
     {
         let mut moved = false;
@@ -48,7 +50,8 @@ impl<'a> World<'a> {
 
     /// Each shard of the persons hears a letter. Returns whether anything moved.
     fn hear_all(&mut self) -> bool
-        ensures plays { Plays (phase self.old) (world_of self.old) (hearings_of self.old.shards) result (world_of self.new) }
+        ensures plays { Plays (phase self.old) (world_of self.old) (hearings_of self.old.shards) result
+            (world_of self.new) }
         ensures phase { phase self.new ≡ phase self.old }
     {
         let mut moved = false;
@@ -63,7 +66,8 @@ impl<'a> World<'a> {
     /// counts. Returns whether anything moved.
     #[inline]
     fn round(&mut self) -> bool
-        ensures plays { Plays (phase self.old) (world_of self.old) (round_of self.old.shards) result (world_of self.new) }
+        ensures plays { Plays (phase self.old) (world_of self.old) (round_of self.old.shards) result
+            (world_of self.new) }
         ensures phase { phase self.new ≡ phase self.old }
     {
         let bids = self.bid_all();

@@ -49,7 +49,9 @@ impl<'a> World<'a> {
         ensures award { objects_at self.new shard ≡ after_bid (objects_at self.old shard) self.old.eps offer }
         ensures letters { letters_of result ≡ answers self.old.shards self.old.eps
             (sale_of (objects_at self.old shard) offer.object) offer }
-        ensures rest { self.new ≡ record self.old { objects = slice_set self.old.objects shard (objects_at self.new shard) } }
+        ensures rest { self.new ≡ record self.old {
+          objects = slice_set self.old.objects shard (objects_at self.new shard);
+        } }
         ensures reach { All (Reaches self.old.shards) (letters_of result) }
     {
         let eps = self.eps;
@@ -63,7 +65,8 @@ impl<'a> World<'a> {
         requires known { shard < self.now.shards }
         requires owns { OwnsObject self.now shard object }
         requires to { to < self.now.shards }
-        ensures { result ≡ price_notice (length self.now.table.rows) to object (price_of (objects_at self.now shard) object) }
+        ensures { result ≡ price_notice (length self.now.table.rows) to object
+            (price_of (objects_at self.now shard) object) }
     {
         let objects = &self.objects[shard as usize];
         objects.tell(object, to)

@@ -46,7 +46,8 @@ impl Shortlist {
     fn take_at(&mut self, row: PricedRow, bound: i64, place: usize) -> bool
         requires within { place < length row.arcs.now }
         requires gathered { Gathered (value_in row) (take place row.arcs.now) self.old.arcs bound }
-        ensures taken { result ≡ true → Gathered (value_in row.entry) (take (place + 1) row.entry.arcs.now) self.new.arcs bound }
+        ensures taken { result ≡ true → Gathered (value_in row.entry) (take (place + 1) row.entry.arcs.now)
+            self.new.arcs bound }
         ensures none { result ≡ false → self.new.arcs ≡ [] }
         ensures bound { self.new.bound ≡ self.old.bound }
         ensures person { self.new.person ≡ self.old.person }

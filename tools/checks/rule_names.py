@@ -48,10 +48,10 @@ def definition_at(crate, name):
 
 
 def contracts_of(crate, function):
-    """Each public function of this name: its file, and where its contract begins and ends there."""
+    """Each function of this name that others may call: its file, and where its contract begins and ends there."""
     for path in sorted((CRATES / crate / "src").rglob("*.rt")):
         text = text_of(path)
-        for found in re.finditer(rf"^( *)pub fn {re.escape(function)}\b", text, re.M):
+        for found in re.finditer(rf"^( *)pub(?:\(crate\))? fn {re.escape(function)}\b", text, re.M):
             end = text.find(f"\n{found[1]}{{", found.end())
             yield path, found.end(), end if end >= 0 else len(text)
 

@@ -108,7 +108,8 @@ impl Bidder {
 
     /// The best arc of a person: by the list or the blocks where these decide it, and else by a pass over the row. None
     /// where the person has no arc.
-    // Not inlined: docs/CODEGEN.md, "A search in line".
+    // Not inlined: so the scan of a sorted short row, which is in line where a bid is asked for, keeps the best arc, the
+    // second and the place in registers.
     #[inline(never)]
     fn best_apart(&mut self, own: PersonRow) -> Option<Scan>
         requires kept { KeptAt own self.old }
@@ -126,7 +127,8 @@ impl Bidder {
     }
 
     /// The same, for an inlined search.
-    // A function by itself: docs/CODEGEN.md, "The memory of a seldom answer".
+    // A function by itself, since few bids make this call: LLVM sets the memory of its answer to zero where the calling
+    // function begins.
     #[inline(always)]
     fn best_seldom(&mut self, own: PersonRow) -> Option<Scan>
         requires kept { KeptAt own self.old }

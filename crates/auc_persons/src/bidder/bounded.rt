@@ -86,7 +86,7 @@ pub(crate) fn next_within(
 
 /// The best arc of a person with a long row, in one pass over the blocks. It begins with what is known of some arcs of
 /// the row. The bound of each block that is scanned becomes its least value.
-// Not inlined: docs/CODEGEN.md, "Loops of their own".
+// Not inlined, so that the loop has the registers for itself.
 #[inline(never)]
 pub(crate) fn scan_blocks(
     own: PersonRow,

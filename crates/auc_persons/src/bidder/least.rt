@@ -16,7 +16,7 @@ fn least_of_whole(row: PricedRow, from: usize) -> i64
     ensures { Above (value_in row.entry) row.entry.arcs.now from (from + 16) result }
 {
     let mut least = i64::MAX;
-    // A fixed number of arcs: docs/CODEGEN.md, "A block written out".
+    // A fixed number of arcs: LLVM unrolls the loop, which then has no test of an end.
     for number in 0..BLOCK {
         least = least.min(row.value(from + number));
     }
@@ -36,7 +36,7 @@ fn least_of_part(row: PricedRow, from: usize, to: usize) -> i64
 }
 
 /// The least value of the arcs of the block that begins here; the last block of a row may be shorter.
-// Inlined: docs/CODEGEN.md, "A block written out".
+// Inlined: else the row would go through memory at each block.
 #[inline(always)]
 pub(crate) fn least_of(row: PricedRow, from: usize) -> i64
     requires within { from ≤ length row.arcs.now }

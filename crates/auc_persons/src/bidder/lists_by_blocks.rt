@@ -46,7 +46,7 @@ impl Shortlist {
 
 /// Takes the arcs of a long row that are below a bound; none where they are too many. The bound of each block that is
 /// scanned becomes its least value.
-// Not inlined: docs/CODEGEN.md, "Loops of their own".
+// Not inlined, so that the loop has the registers for itself.
 #[inline(never)]
 fn fill_by_blocks(
     own: PersonRow,

@@ -186,7 +186,7 @@ impl Shortlist {
     }
 
     /// The best arc of the row, where the list or one that is made anew decides.
-    // Not inlined: docs/CODEGEN.md, "A list's own registers".
+    // Not inlined, and `SortedRow::best` always: LLVM chose the opposite, and the row went through memory.
     #[inline(never)]
     pub(crate) fn scan(&mut self, row: PricedRow) -> Option<Scan>
         requires keeps { Keeps (value_in row) row.arcs.now self.old.arcs self.old.bound }

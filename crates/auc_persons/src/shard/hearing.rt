@@ -92,7 +92,7 @@ impl PersonShard {
 
     /// A Price.
     #[tactic(auto, using(crate::proofs::Rise::shape_copy, crate::proofs::Rise::shape_same, crate::proofs::Rise::rises_same))]
-    // Not inlined: docs/CODEGEN.md, "Letters taken in line".
+    // Not inlined, and `on_letter` always: a letter goes from the mail to the shard through no memory.
     #[inline(never)]
     fn on_price(&mut self, object: u32, price: i64) -> Result<(), PersonFault>
         ensures exact { Priced self.old object price result self.new }
@@ -116,7 +116,7 @@ impl PersonShard {
     /// Nothing is changed by a letter that is refused. [`PersonFault::Stray`] comes first. Its causes are another kind
     /// of letter, a person or an object out of range or not the shard's, a price out of range, and a state that doesn't
     /// fit. Then [`PersonFault::Fell`]: the price is below the copy.
-    // docs/CODEGEN.md, "Letters taken in line".
+    // In line: a letter goes from the mail to the shard through no memory.
     #[inline(always)]
     pub fn on_letter(&mut self, letter: Letter) -> Result<(), PersonFault>
         ensures exact { OnLetter self.old letter result self.new }

@@ -64,7 +64,7 @@ impl Shortlist {
 
     /// Appends the arcs below a bound from one place of a row to another; the list has those before. No arc is kept at
     /// all where they are too many.
-    // Not inlined: docs/CODEGEN.md, "Loops of their own".
+    // Not inlined, so that the loop has the registers for itself.
     #[inline(never)]
     pub(crate) fn take_part(&mut self, row: PricedRow, bound: i64, from: usize, to: usize) -> bool
         requires order { from ≤ to }

@@ -15,7 +15,7 @@ use Rattle.auc_run.specs.declared.refusal.Refusal.{Refusal}
 use Rattle.auc_run.specs.declared.refusal.Refusal.TheVariants.{NotRead, NoProblem, NoCertificate, Invalid, NoStart, NoScript, NoMemory as NoMemoryForJob, NoThreads}
 use Rattle.auc_script.specs.declared.script_error.ScriptError.{ScriptError}
 use Rattle.auc_script.specs.declared.script_error.ScriptError.TheVariants.{Word, Range, Cut as CutScript, TooManyCalls, NoMemory as NoMemoryForScript}
-use Rattle.auc_messages.specs.declared.texts.TheConstants.{OUT_OF_MEMORY, READ_FAILED, TOO_MANY_READS, EMPTY, BAD_NUMBER, COUNT_RANGE, TOO_FEW_OBJECTS, TOO_MANY_ARCS, PERSON_RANGE, OBJECT_RANGE, COST_RANGE, CUT_PROBLEM, CERTIFICATE_LINE, WRONG_SIZE, NO_SUCH_ARC, OBJECT_TWICE, WRONG_COST, SLACK, LEFT_OVER, NOT_HALL, WRONG_BOUND, NOT_SQUARE, NO_PRICES, OTHER_SIZE, TOO_HIGH, SCRIPT_WORD, SCRIPT_RANGE, CUT_SCRIPT, TOO_MANY_CALLS, NO_THREADS, BIDS_RAN_OUT, CEILING_PASSED, POSTS_RAN_OUT, TRAIL_FULL, MAIL_FULL, NO_ASSIGNMENT, BRACKET_ALONE, GUARD_HIT, NOT_WRITTEN, INPUT_REFUSED, NO_COMMAND, STATUS_ALONE}
+use Rattle.auc_messages.specs.declared.texts.TheConstants.{OUT_OF_MEMORY, READ_FAILED, TOO_MANY_READS, EMPTY, BAD_NUMBER, COUNT_RANGE, TOO_FEW_OBJECTS, TOO_MANY_ARCS, PERSON_RANGE, OBJECT_RANGE, COST_RANGE, CUT_PROBLEM, CERTIFICATE_LINE, WRONG_SIZE, NO_SUCH_ARC, OBJECT_TWICE, WRONG_COST, SLACK, LEFT_OVER, NOT_HALL, WRONG_BOUND, NOT_SQUARE, NO_PRICES, OTHER_SIZE, TOO_HIGH, SCRIPT_WORD, SCRIPT_RANGE, CUT_SCRIPT, TOO_MANY_CALLS, NO_THREADS, BIDS_RAN_OUT, CEILING_PASSED, POSTS_RAN_OUT, TRAIL_FULL, MAIL_FULL, NO_ASSIGNMENT, BRACKET_ALONE, GUARD_HIT, NOT_WRITTEN, INPUT_REFUSED, STATUS_ALONE}
 
 unfoldable pub phrase_of_problem : ReadError → List ℕ
 phrase_of_problem Empty = EMPTY.now
@@ -84,7 +84,7 @@ phrase_of_reason Reason.Trail = TRAIL_FULL.now
 phrase_of_reason Reason.Mail = MAIL_FULL.now
 
 -- without a refusal or a limit: 3 no assignment, 4 a bracket, 7 a guard, 8 not written, 6 no memory, 5 a refused input,
--- 2 usage, and any other
+-- and any other
 unfoldable pub phrase_of_status : ℕ → List ℕ
 phrase_of_status status =
     if status == 3 then NO_ASSIGNMENT.now else
@@ -92,8 +92,7 @@ phrase_of_status status =
     (if status == 7 then GUARD_HIT.now else
     (if status == 8 then NOT_WRITTEN.now else
     (if status == 6 then OUT_OF_MEMORY.now else
-    (if status == 5 then INPUT_REFUSED.now else
-    (if status == 2 then NO_COMMAND.now else STATUS_ALONE.now))))))
+    (if status == 5 then INPUT_REFUSED.now else STATUS_ALONE.now)))))
 
 -- a limit is told by its own words, and where none ended the search, the status
 abbrev pub phrase_of_end : ℕ → Option Reason → List ℕ

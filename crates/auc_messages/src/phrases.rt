@@ -11,7 +11,7 @@ use crate::texts;
 use auc_cert::CertTextError;
 use auc_claim::{CertRefused, Reason, StartError};
 use auc_graph::ReadError;
-use auc_run::status::{BRACKET, BROKEN, INFEASIBLE, NO_MEMORY, REFUSED, UNWRITTEN, USAGE};
+use auc_run::status::{BRACKET, BROKEN, INFEASIBLE, NO_MEMORY, REFUSED, UNWRITTEN};
 use auc_run::{ReadFault, Refusal, ScriptError};
 
 /// Of a problem.
@@ -156,7 +156,6 @@ fn of_status(status: u8) -> &'static [u8]
         UNWRITTEN => texts::NOT_WRITTEN,
         NO_MEMORY => texts::OUT_OF_MEMORY,
         REFUSED => texts::INPUT_REFUSED,
-        USAGE => texts::NO_COMMAND,
         _ => texts::STATUS_ALONE,
     }
 }

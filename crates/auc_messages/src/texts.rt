@@ -118,8 +118,6 @@ pub(crate) const NOT_WRITTEN: &[u8] =
 
 pub(crate) const INPUT_REFUSED: &[u8] = b"an input was refused; see standard output";
 
-pub(crate) const NO_COMMAND: &[u8] = b"these arguments are no command; see auction --help";
-
 pub(crate) const STATUS_ALONE: &[u8] =
     b"the job has ended with this status alone; see standard output";
 

@@ -108,8 +108,8 @@ impl Bidder {
 
     /// The best arc of a person: by the list or the blocks where these decide it, and else by a pass over the row. None
     /// where the person has no arc.
-    // Not inlined: so the scan of a sorted short row, which is in line where a bid is asked for, keeps the best arc, the
-    // second and the place in registers.
+    // Not inlined: so the scan of a sorted short row, which is in line where a bid is asked for, keeps the best arc,
+    // the second and the place in registers.
     #[inline(never)]
     fn best_apart(&mut self, own: PersonRow) -> Option<Scan>
         requires kept { KeptAt own self.old }

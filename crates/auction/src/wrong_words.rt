@@ -6,6 +6,9 @@ use crate::word_fault::{WordFault, nearest};
 use auc_run::MOST_BIDS;
 use std::alloc::{AllocError, Global};
 
+/// Of arguments that are no command, where none of them can be named.
+const NO_COMMAND: &str = "these arguments are no command; see auction --help";
+
 /// A command.
 #[derive(Clone, Copy, Debug, PartialEq, Eq)]
 enum Command {
@@ -233,7 +236,7 @@ impl<'a> Walk<'a> {
                 "check wants the name of a problem: auction check FILE [CERT] [--objects M]",
             );
         }
-        WordFault::alone("these arguments are no command; see auction --help")
+        WordFault::alone(NO_COMMAND)
     }
 }
 
@@ -279,7 +282,7 @@ fn fault_of_command<'a>(alloc: Global, word: &'a str) -> Result<WordFault<'a>, A
 /// What is wrong with the words after `help`, which are no command's name alone.
 fn fault_of_help<'a>(alloc: Global, words: &'a [String]) -> Result<WordFault<'a>, AllocError> {
     match words {
-        [] => Ok(WordFault::alone("these arguments are no command; see auction --help")),
+        [] => Ok(WordFault::alone(NO_COMMAND)),
         [word] => fault_of_command(alloc, word.as_str()),
         [_, word, ..] => {
             Ok(WordFault::about("one name too many, ", word.as_str(), "; see auction --help"))

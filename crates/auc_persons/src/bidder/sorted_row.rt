@@ -43,8 +43,8 @@ impl<'a> SortedRow<'a> {
     }
 
     /// The best arc; none where there is no arc. The pass has no branch by values, and tests nothing but its end.
-    // Inlined: best, second and place stay in registers. One arc a turn: a jump across 32 bytes is decoded anew each turn
-    // (`bench/solve/jumps`).
+    // Inlined: best, second and place stay in registers. One arc a turn: a jump across 32 bytes is decoded anew each
+    // turn (`bench/solve/jumps`).
     #[inline(always)]
     pub fn best(self) -> Option<Scan>
         ensures some { IfSome result (IsScan (value self.entry.scale (copy_in self.entry.copies.now))

@@ -54,29 +54,40 @@ fn note(phases: &mut Vec<PhaseEnd>, ended: PhaseEnd) -> Result<(), AllocError>
     Ok(())
 }
 
+/// A problem, its rows, and the limits of each phase.
+#[derive(Clone, Copy)]
+struct Setting<'a> {
+    problem: &'a ArcList,
+    rows: &'a Rows,
+    limits: &'a Limits,
+}
+
 /// Solves a problem that has an assignment: a phase at each eps. The first begins with these prices, each other one
 /// with the prices of the one before.
 fn solve_rows<R: Threads + Wait + Sync, G: Gate + Sync>(
     rt: &R,
     alloc: Global,
-    problem: &ArcList,
-    rows: &Rows,
-    limits: &Limits,
+    setting: Setting,
     eps: i64,
     prices: Vec<i64>,
     gate: &G,
 ) -> Result<Solved, RunError>
-    requires rows { IsTableOf problem.now rows.now }
-    requires limits { AreThreadLimits limits.now }
-    requires arcs { NobodyStuck rows.now }
-    requires assignment { HasAssignment problem.now }
+    requires rows { IsTableOf setting.problem.now setting.rows.now }
+    requires limits { AreThreadLimits setting.limits.now }
+    requires arcs { NobodyStuck setting.rows.now }
+    requires assignment { HasAssignment setting.problem.now }
     requires eps { IsEps eps }
-    requires prices { ArePrices rows.now prices.items }
-    ensures run { (start : Option (List ℤ)) → Begins rows.now start eps prices.items → IfOk result
-        (λ s. IsSolvedBy problem.now limits.now start s.phases.items s.answer) }
-    ensures answer { IfOk result (λ s. IsThreadAnswer problem.now s.answer) }
+    requires prices { ArePrices setting.rows.now prices.items }
+    ensures run { (start : Option (List ℤ)) → Begins setting.entry.rows.now start eps prices.items → IfOk result
+        (λ s. IsSolvedBy setting.entry.problem.now setting.entry.limits.now start s.phases.items s.answer) }
+    ensures answer { IfOk result (λ s. IsThreadAnswer setting.entry.problem.now s.answer) }
     ensures infeasible { IfOk result (λ s. (s.phases.items ≡ []) ↔ IsInfeasible s.answer) }
 {
+    let Setting {
+        problem,
+        rows,
+        limits,
+    } = setting;
     hall_sets_leave_no_assignment();
     let mut phases = Vec::new(alloc);
     let mut prices = prices;
@@ -150,7 +161,12 @@ pub fn solve_threads<R: Threads + Wait + Sync, G: Gate + Sync>(
         Prepared::Rows(rows) => {
             let prices = vec![in alloc; 0; rows.objects() as usize]?;
             let eps = first_eps(&rows);
-            solve_rows(rt, alloc, problem, &rows, limits, eps, prices, gate)
+            let setting = Setting {
+                problem,
+                rows: &rows,
+                limits,
+            };
+            solve_rows(rt, alloc, setting, eps, prices, gate)
         }
     }
 }
@@ -180,7 +196,12 @@ pub fn solve_threads_from<R: Threads + Wait + Sync, G: Gate + Sync>(
         Prepared::Answered(answer) => Ok(unsolved(alloc, answer)),
         Prepared::Rows(rows) => {
             let prices = start.to_vec(alloc)?;
-            solve_rows(rt, alloc, problem, &rows, limits, LAST_EPS, prices, gate)
+            let setting = Setting {
+                problem,
+                rows: &rows,
+                limits,
+            };
+            solve_rows(rt, alloc, setting, LAST_EPS, prices, gate)
         }
     }
 }

@@ -6,9 +6,9 @@ use Rattle.auc_threads.proofs.solving.solve_rows.Given as goal
 
 abbrev pub invariant-loop-prices : goal.invariant-loop-prices
 invariant-loop-prices g l = record {
-  prices : ArePrices l.rows l.prices.items;
+  prices : ArePrices l.setting.rows.now l.prices.items;
   eps : IsEps l.eps;
-  ready : IsReady l.problem l.rows l.limits l.fn.eps l.fn.prices.items l.phases.items l.eps l.prices.items;
+  ready : IsReady l.setting.problem.now l.setting.rows.now l.setting.limits.now l.fn.eps l.fn.prices.items l.phases.items l.eps l.prices.items;
 }
 
 abbrev pub decreases-loop-prices : goal.decreases-loop-prices

@@ -260,18 +260,25 @@ pub fn run_plain<R: Read, Q: Read, W: Write>(
     perform_plainly(alloc, job, reader, second, writer, &mut Onward).status
 }
 
+/// How a solve with workers has its threads.
+pub struct Threading<'a, H, G> {
+    /// What starts threads, and lets them wait.
+    pub rt: &'a H,
+    /// What each worker passes before each of its calls of a mail.
+    pub gate: &'a G,
+}
+
 /// Does a job, as [`run_command`] does, and says how it ended: with its status, and why it was refused, where it was. A
 /// direct solve asks the watch whether it goes on, see [`auc_direct::solve_direct_watched`]; no other job does.
 /// Where it has said no, an answer is as right as any other: it may be an assignment and a bound that no limit has
 /// made.
 pub fn perform<H: Threads + Wait + Sync, R: Read, Q: Read, W: Write, G: Gate + Sync, V: Watch>(
-    rt: &H,
+    threading: &Threading<'_, H, G>,
     alloc: Global,
     job: &Job,
     reader: &mut R,
     second: &mut Q,
     writer: &mut W,
-    gate: &G,
     watch: &mut V,
 ) -> Ending
     // The job's numbers are those that its fields allow.
@@ -304,6 +311,7 @@ pub fn perform<H: Threads + Wait + Sync, R: Read, Q: Read, W: Write, G: Gate + S
                 from,
                 direct,
             };
+            let Threading { rt, gate } = *threading;
             let outcome = outcome_by_threads(rt, alloc, reader, second, numbers, gate);
             return tell(writer, outcome);
         }
@@ -343,5 +351,6 @@ pub fn run_command<H: Threads + Wait + Sync, R: Read, Q: Read, W: Write, G: Gate
     ensures alone { has_second job.now ≡ false → second.new ≡ second.old }
 {
     let watch = &mut Onward;
-    perform(rt, alloc, job, reader, second, writer, gate, watch).status
+    let threading = Threading { rt, gate };
+    perform(&threading, alloc, job, reader, second, writer, watch).status
 }

@@ -32,7 +32,7 @@ pub use auc_threads::{
     solve_threads, solve_threads_from,
 };
 pub use auc_world::USUAL_BIDS;
-pub use command::{Job, MOST_BIDS, perform, run_command, run_plain};
+pub use command::{Job, MOST_BIDS, Threading, perform, run_command, run_plain};
 pub use ending::Ending;
 pub use found::Found;
 pub use input::{ReadFault, read_all};

@@ -19,7 +19,7 @@ use asked::Words;
 use auc_messages::{Page, Spot, Subject, page_of, remark_at, remark_of, write_name, write_remark};
 use auc_place::{Place, find_token};
 use auc_run::status::{NO_MEMORY, OPTIMAL, REFUSED, UNWRITTEN, USAGE};
-use auc_run::{Ending, FreeGate, Job, perform};
+use auc_run::{Ending, FreeGate, Job, Threading, perform};
 use std::fs::File;
 use std::io;
 use std::io::{BufWriter, ErrorKind, Read, Seek, SeekFrom, Write};
@@ -70,14 +70,17 @@ fn answer<R: Print + Eprint + Clock + AllocGlobal + Threads + Wait + Sync, A: Re
         return Err(NO_MEMORY);
     };
     let mut timer = Timer::start(rt, words.watching);
-    let ending = perform(
+    let threading = Threading {
         rt,
+        gate: &FreeGate,
+    };
+    let ending = perform(
+        &threading,
         alloc,
         &words.job,
         first,
         second,
         &mut writer,
-        &FreeGate,
         &mut timer,
     );
     if writer.flush().is_err() {

@@ -6,7 +6,7 @@ ghost use Rattle.auc_graph.specs.Assignment.{total};
 ghost use Rattle.auc_graph.specs.Price.{IsPrice};
 ghost use Rattle.auc_market.specs.Halts.{IsHalt};
 ghost use Rattle.auc_answers.specs.Answers.{HasAssignment, IsAnswer, IsBracketAnswer, IsInfeasibleAnswer};
-ghost use Rattle.auc_rows.specs.Rows.{AreRowsOf, EachHasArc, IsFlatTable};
+ghost use Rattle.auc_rows.specs.Rows.{AreRowsOf, EachHasArc, FlatTable, IsFlatTable};
 ghost use Rattle.auc_market.specs.Endings.{IsLeft};
 ghost use Rattle.auc_direct.specs.Adopted.{IsFullTable};
 ghost use Rattle.auc_direct.specs.Endings.{IsAsked, IsLimited, IsLimitedFrom, IsLimitedUnless, IsOfFirstPhases};
@@ -118,14 +118,8 @@ fn answer_of(
 }
 
 /// The answer of a run that has ended at once: that there is no assignment, unless memory was refused.
-fn halted(
-    alloc: Global,
-    problem: &ArcList,
-    _flat: &FlatRows,
-    halt: Halt,
-) -> Result<Answer, AllocError>
-    requires rows { AreRowsOf problem.now _flat.now }
-    requires halt { IsHalt _flat.now halt }
+fn halted(alloc: Global, problem: &ArcList, halt: Halt) -> Result<Answer, AllocError>
+    requires halt { (flat : FlatTable) × (AreRowsOf problem.now flat × IsHalt flat halt) }
     ensures { IfOk result (IsInfeasibleAnswer problem.now) }
 {
     match halt {
@@ -166,7 +160,7 @@ fn concluded(
 {
     match ended {
         Ok(outcome) => answer_of(alloc, problem, flat, outcome),
-        Err(halt) => halted(alloc, problem, &flat, halt),
+        Err(halt) => halted(alloc, problem, halt),
     }
 }
 

@@ -2,7 +2,8 @@ use Rattle.std.proofs.Common.{◌-◌, get_or, arith, ◌∙◌}
 use Rattle.auc_graph.specs.Table.{row_of}
 use Rattle.auc_hall.proofs.QueueLaws.{blank}
 use Rattle.auc_hall.proofs.SearchLaws.{walk_past_row, walk_on_row, way_out, last_way_out, holder_within, walked_all}
-use Rattle.auc_hall.proofs.QueueLaws.{no_arc, the_row}
+use Rattle.auc_hall.proofs.QueueLaws.{the_row}
+use Rattle.auc_hall.proofs.ProblemLaws.{no_arc}
 use Rattle.auc_hall.proofs.search.walk.Goals as goal
 
 pub loop-arc-preserved-then-seen-object : goal.loop-arc-preserved-then-seen-object

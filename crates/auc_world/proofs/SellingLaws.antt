@@ -6,7 +6,7 @@ use Rattle.auc_letters.specs.declared.letter.Why.{Why}
 use Rattle.auc_letters.specs.declared.out.Out.{Out}
 use Rattle.auc_letters.specs.declared.letter.Bid.{Bid}
 use Rattle.auc_letters.specs.Award.{Sale, answers, award, bid_letter, bid_of}
-use Rattle.auc_letters.specs.Routing.{price_notice}
+use Rattle.auc_letters.specs.Routing.{price_told}
 use Rattle.auc_mail.specs.Mail.{Mail}
 use Rattle.auc_objects.specs.Objects.{IsBidIn, Objects, after_bid, price_of, sale_of}
 use Rattle.auc_model.specs.Mails.{ObjectShard, with_outbox}
@@ -52,10 +52,10 @@ module _ (p : Parts) (q : ℕ) (are : AreParts p) (may : MayAnswer p q) where
   price_here : (j : ℕ) → j % p.shards ≡ q → (world_of p).price j ≡ price_of (objects_at p q) j
   price_here j own = ap (λ (n : ℕ). price_of (get_or p.objects n no_objects) j) own
 
-  pub price_notice_out : (j s : ℕ) (v : World) (out : Out) → s < p.shards → OwnsObject p q j → out ≡ price_notice (length p.table.rows) s j (price_of (objects_at p q) j)
+  pub price_told_out : (j s : ℕ) (v : World) (out : Out) → s < p.shards → OwnsObject p q j → out ≡ price_told (length p.table.rows) s j (price_of (objects_at p q) j)
       → v ≡ with_outbox (world_of p) (ObjectShard q) (out ∷ []) → TellTurn (phase p) (world_of p) q j s TurnReply.Moved v
-  price_notice_out j s v out to owns letter e =
-      let same : out ≡ price_notice (length p.table.rows) s j ((world_of p).price j) = letter ∙ ap (λ (z : ℤ). price_notice (length p.table.rows) s j z) (sym (price_here j owns.own)) in
+  price_told_out j s v out to owns letter e =
+      let same : out ≡ price_told (length p.table.rows) s j ((world_of p).price j) = letter ∙ ap (λ (z : ℤ). price_told (length p.table.rows) s j z) (sym (price_here j owns.own)) in
       tells may.known to owns.known owns.own may.empty refl
       (e ∙ ap (λ (o : Out). with_outbox (world_of p) (ObjectShard q) (o ∷ [])) same)
 

@@ -3,7 +3,7 @@
 ghost use Rattle.std.specs.Prelude.{◌≡◌, ◌<◌, ◌+◌, [], ◌∷◌, length, slice_set, All, IfSome, IfNone, IsTrue, ◌↔◌};
 ghost use Rattle.auc_letters.specs.Award.{answers};
 ghost use Rattle.auc_graph.specs.Price.{IsPrice};
-ghost use Rattle.auc_letters.specs.Routing.{price_notice};
+ghost use Rattle.auc_letters.specs.Routing.{price_told};
 ghost use Rattle.auc_model.specs.Selling.{FitsBid, ObjectTakeTurn, TellTurn};
 ghost use Rattle.auc_model.specs.declared.turn.Turn.{Turn};
 ghost use Rattle.auc_objects.specs.Answers.{letters_of};
@@ -65,7 +65,7 @@ impl<'a> World<'a> {
         requires known { shard < self.now.shards }
         requires owns { OwnsObject self.now shard object }
         requires to { to < self.now.shards }
-        ensures { result ≡ price_notice (length self.now.table.rows) to object
+        ensures { result ≡ price_told (length self.now.table.rows) to object
             (price_of (objects_at self.now shard) object) }
     {
         let objects = &self.objects[shard as usize];

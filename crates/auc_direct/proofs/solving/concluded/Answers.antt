@@ -10,7 +10,7 @@ pub answer_of-requires-clause-left : goal.answer_of-requires-clause-left
 answer_of-requires-clause-left c = rw c.in-Ok.is at c.requires.left
 
 pub halted-requires : goal.halted-requires
-halted-requires c = (c.args.flat, (c.requires.rows, rw c.in-Err.is at c.requires.halt))
+halted-requires c = record { halt = (c.args.flat, (c.requires.rows, rw c.in-Err.is at c.requires.halt)) }
 
 pub returns-in-Err-clause-is : goal.returns-in-Err-clause-is
 returns-in-Err-clause-is c = of_answers (IsInfeasibleAnswer c.args.problem.now) (IsAnswer c.args.problem.now) c.halted.result (none_is_answer c.args.problem.now) c.halted.ensures

@@ -261,6 +261,7 @@ pub fn run_plain<R: Read, Q: Read, W: Write>(
 }
 
 /// How a solve with workers has its threads.
+#[derive(Drop)]
 pub struct Threading<'a, H, G> {
     /// What starts threads, and lets them wait.
     pub rt: &'a H,

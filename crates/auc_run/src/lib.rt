@@ -14,6 +14,7 @@ mod input;
 mod laws;
 mod lines;
 mod mail;
+mod performing;
 mod problem;
 mod refusal;
 mod report;
@@ -21,6 +22,7 @@ mod solve;
 mod start;
 pub mod status;
 mod valid;
+mod verdict;
 
 pub use auc_direct::{Onward, Progress, Watch};
 pub use auc_script::{
@@ -32,11 +34,12 @@ pub use auc_threads::{
     solve_threads, solve_threads_from,
 };
 pub use auc_world::USUAL_BIDS;
-pub use command::{Job, MOST_BIDS, Threading, perform, run_command, run_plain};
+pub use command::{Job, MOST_BIDS};
 pub use ending::Ending;
 pub use found::Found;
 pub use input::{ReadFault, read_all};
 pub use laws::limits_are;
+pub use performing::{Threading, perform, run_command, run_plain};
 pub use refusal::Refusal;
 pub use report::Report;
 pub use valid::Valid;

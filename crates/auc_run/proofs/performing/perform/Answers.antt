@@ -1,5 +1,5 @@
 use Rattle.auc_run.specs.Solutions.{watched}
-use Rattle.auc_run.proofs.command.perform.Goals as goal
+use Rattle.auc_run.proofs.performing.perform.Goals as goal
 
 pub returns-then-workers-gt0-clause-ended : goal.returns-then-workers-gt0-clause-ended
 returns-then-workers-gt0-clause-ended g c =

@@ -4,7 +4,7 @@ use Rattle.auc_run.specs.declared.command.SolveNumbers.{SolveNumbers}
 use Rattle.auc_run.specs.Jobs.{solve_by}
 use Rattle.auc_run.specs.Solutions.{watched}
 use Rattle.auc_run.proofs.OutcomeLaws.{completed, refused, replied, solved}
-use Rattle.auc_run.proofs.command.outcome_of.Goals as goal
+use Rattle.auc_run.proofs.performing.outcome_of.Goals as goal
 
 pub returns-in_ok-answer-in-Solve-clause-outcome : goal.returns-in_ok-answer-in-Solve-clause-outcome
 returns-in_ok-answer-in-Solve-clause-outcome g c =

@@ -1,4 +1,4 @@
-use Rattle.auc_run.proofs.command.run_command.Goals as goal
+use Rattle.auc_run.proofs.performing.run_command.Goals as goal
 
 pub returns-clause-said : goal.returns-clause-said
 returns-clause-said g c = λ told.

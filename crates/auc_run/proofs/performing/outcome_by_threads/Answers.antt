@@ -1,7 +1,7 @@
 use Rattle.std.proofs.Common.{Ok, Err}
 use Rattle.auc_run.specs.Jobs.{solve_by}
 use Rattle.auc_run.proofs.OutcomeLaws.{solved, refused}
-use Rattle.auc_run.proofs.command.outcome_by_threads.Goals as goal
+use Rattle.auc_run.proofs.performing.outcome_by_threads.Goals as goal
 
 pub returns-in_err-answer-clause-outcome : goal.returns-in_err-answer-clause-outcome
 returns-in_err-answer-clause-outcome g c = λ w.

@@ -1,7 +1,7 @@
 use Rattle.auc_run.proofs.VerdictLaws.{input_fails, not_judged}
 use Rattle.std.proofs.Common.{rules}
-use Rattle.auc_run.proofs.command.verdict_of.Goals as goal
-use Rattle.auc_run.proofs.command.verdict_of.Goals.{in-Optimal-1, in-Infeasible-1, in-Bracket-1}
+use Rattle.auc_run.proofs.verdict.verdict_of.Goals as goal
+use Rattle.auc_run.proofs.verdict.verdict_of.Goals.{in-Optimal-1, in-Infeasible-1, in-Bracket-1}
 
 pub returns-in_err-problem-clause-verdict : goal.returns-in_err-problem-clause-verdict
 returns-in_err-problem-clause-verdict g c =

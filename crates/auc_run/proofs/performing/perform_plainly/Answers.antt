@@ -1,4 +1,4 @@
-use Rattle.auc_run.proofs.command.perform_plainly.Goals as goal
+use Rattle.auc_run.proofs.performing.perform_plainly.Goals as goal
 
 pub returns-clause-ended : goal.returns-clause-ended
 returns-clause-ended g c = (c.outcome_of-outcome.result, c.outcome_of-outcome.ensures.outcome, record { whole = c.tell.ensures.whole; cut = c.tell.ensures.cut; refusal = c.tell.ensures.refusal; reason = c.tell.ensures.reason })

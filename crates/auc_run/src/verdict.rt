@@ -1,0 +1,63 @@
+//! Whether the claim of a certificate holds of a problem.
+
+ghost use Rattle.std.specs.Prelude.{◌≡◌, ◌≤◌, IfSome, IsErr};
+ghost use Rattle.auc_graph.specs.Reading.{reading};
+ghost use Rattle.auc_claim.specs.Spelled.{IsSpelled};
+ghost use Rattle.auc_run.specs.Verdicts.{Judges, IsVerdict, said_by};
+
+use crate::input::read_all;
+use crate::problem::problem_of;
+use crate::refusal::Refusal;
+use crate::valid::Valid;
+use auc_cert::read_cert;
+use auc_claim::{Cert, CertParts, check};
+use auc_graph::{ArcList, MOST_ARCS, MOST_READS};
+use std::alloc::Global;
+use std::io::Read;
+
+/// What a certificate says, if its claim holds.
+fn said_by(cert: &Cert) -> Valid
+    ensures is { result ≡ said_by cert.now }
+    ensures spelled { IsSpelled cert.now }
+{
+    match cert.parts() {
+        CertParts::Optimal { cost, .. } => Valid::Optimal { cost: *cost },
+        CertParts::Bracket { lower, cost, .. } => Valid::Bracket {
+            lower: *lower,
+            cost: *cost,
+        },
+        CertParts::Infeasible { persons, objects } => Valid::Infeasible {
+            persons: persons.as_slice().len(),
+            objects: objects.as_slice().len(),
+        },
+    }
+}
+
+/// What a certificate says, where its claim holds of the problem.
+fn judge(alloc: Global, problem: &ArcList, cert: &Cert) -> Result<Valid, Refusal>
+    ensures judges { Judges problem.now cert.now result }
+    ensures spelled { IsSpelled cert.now }
+{
+    let valid = said_by(cert);
+    check(alloc, problem, cert)?;
+    Ok(valid)
+}
+
+/// What the certificate of the second reader says, where its claim holds of the first reader's problem. The second
+/// reader is read once the problem is accepted.
+pub(crate) fn verdict_of<R: Read, Q: Read>(
+    alloc: Global,
+    reader: &mut R,
+    second: &mut Q,
+    objects: u32,
+) -> Result<Valid, Refusal>
+    requires { objects ≤ 20000 }
+    ensures verdict { IsVerdict objects (R.remaining reader.old) (Q.remaining second.old) result }
+    ensures unread { IfSome (R.remaining reader.old) (λ file. IsErr (reading MOST_ARCS objects file)
+        → second.new ≡ second.old) }
+{
+    let problem = problem_of(alloc, reader, objects)?;
+    let bytes = read_all(alloc, second, MOST_READS)?;
+    let cert = read_cert(alloc, bytes.as_slice())?;
+    judge(alloc, &problem, &cert)
+}

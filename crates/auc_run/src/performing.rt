@@ -16,7 +16,6 @@ use crate::refusal::Refusal;
 use crate::report::{Report, tell};
 use crate::solve::answer_in_threads;
 use crate::verdict::verdict_of;
-use auc_claim::check;
 use auc_direct::{Onward, Watch};
 use auc_graph::{MOST_ARCS, MOST_READS};
 use auc_threads::Gate;

@@ -4,7 +4,7 @@
  * prover: this file is written by hand, and `c/test` tries its numbers against the library.
  *
  * DUTIES of the caller, for each call:
- *   1  Each pointer is not null, is aligned as its type, and leads to as many whole values as the length behind it says. A length of 0
+ *   1  Each pointer is not null, is aligned as its type, and leads to as many whole values as the length after it says. A length of 0
  *      still takes a pointer that is not null and is aligned. No length is above 2^63 / (size of a value).
  *   2  What a const pointer leads to is initialised, and no thread writes it while the call runs.
  *   3  What a pointer without const leads to is initialised, and is read and written by nobody else while the call runs: it shares no
@@ -45,7 +45,7 @@ typedef struct sigdorf_arc {
     uint32_t object;
 } sigdorf_arc;
 
-/* What a call tells beside its status. A field that the status does not name keeps its value. 32 bytes. */
+/* What a call returns beside its status. A field that the status does not name keeps its value. 32 bytes. */
 typedef struct sigdorf_found {
     int64_t cost;     /* SIGDORF_OPTIMAL, SIGDORF_BRACKET */
     int64_t lower;    /* SIGDORF_BRACKET */
@@ -71,7 +71,7 @@ enum sigdorf_status {
 enum sigdorf_list_fault {
     SIGDORF_PERSONS = 1,   /* persons is not from 1 to 10,000 */
     SIGDORF_OBJECTS,       /* objects is not 0, and below persons or above 20,000 */
-    SIGDORF_TOO_MANY_ARCS, /* 33,554,432 arcs are right, and one more stands behind them */
+    SIGDORF_TOO_MANY_ARCS, /* 33,554,432 arcs are right, and one more comes after them */
     SIGDORF_PERSON,        /* the person of arc `place` is none of the problem */
     SIGDORF_OBJECT,        /* the object of arc `place` is none of the problem */
     SIGDORF_COST           /* the cost of arc `place`, or of the entry at this place, is beyond 10^9 in magnitude */
@@ -84,19 +84,19 @@ enum sigdorf_start_fault {
 };
 
 enum sigdorf_claim_fault {
-    SIGDORF_MISPLACED = 1, /* at the place of person `place` stands no arc of his */
+    SIGDORF_MISPLACED = 1, /* at the place of person `place` is no arc of that person */
     SIGDORF_UNSPELLED,     /* a number is out of range, or a Hall set's numbers do not rise */
     SIGDORF_TWICE,         /* object `place` is taken twice */
     SIGDORF_WRONG_COST,    /* the cost is not the sum */
     SIGDORF_SLACK,         /* person `place` has a better arc at the prices */
     SIGDORF_LEFT_OVER,     /* nobody takes object `place`, and it has a price */
-    SIGDORF_NOT_HALL       /* the persons do not know too few objects */
+    SIGDORF_NOT_HALL       /* the persons have arcs to no fewer objects than they are */
 };
 
 /* What ended a phase; of sigdorf_solve one of the first two. */
 enum sigdorf_limit { SIGDORF_BIDS = 1, SIGDORF_CEILING, SIGDORF_POSTS, SIGDORF_TRAIL, SIGDORF_MAIL };
 
-/* Solves the problem of `persons` persons, `objects` objects (0 stands for as many as persons) and these arcs. `start` has no price at
+/* Solves the problem of `persons` persons, `objects` objects (0 means as many as persons) and these arcs. `start` has no price at
  * all, or for each object one to start from, as an earlier call has left them in `prices`. `bids` is the most bids of a phase. `choice` and
  * `hall_objects` have a place for each person, `prices` for each object.
  *
@@ -108,7 +108,7 @@ enum sigdorf_limit { SIGDORF_BIDS = 1, SIGDORF_CEILING, SIGDORF_POSTS, SIGDORF_T
  * SIGDORF_INFEASIBLE: all arcs of the first found->persons persons in `choice` lead to the first found->objects objects in
  *   `hall_objects`, which are fewer; so there is no assignment. Both rise. sigdorf_check_hall lets them pass, unless memory is refused.
  * SIGDORF_REFUSED: found->kind and found->place are exactly the first fault of the list.
- * SIGDORF_MEMORY may stand in place of every other status but SIGDORF_SIZES. What a status does not name keeps its values.
+ * SIGDORF_MEMORY may come in place of every other status but SIGDORF_SIZES. What a status does not name keeps its values.
  *
  * Of several least assignments one is written, and which may change from version to version. */
 int32_t sigdorf_solve(uint32_t persons, uint32_t objects, const sigdorf_arc *arcs, size_t arcs_len, const int64_t *start,
@@ -122,9 +122,9 @@ int32_t sigdorf_solve_by_messages(uint32_t persons, uint32_t objects, const sigd
                                   size_t prices_len, uint32_t *hall_objects, size_t hall_objects_len, sigdorf_found *found);
 
 /* Solves as sigdorf_solve does, but the problem of a table, which has a row for each person and in it an entry for each object: the cost
- * of person i and object j stands at costs[i * stride + j], and an entry that equals `none` is no arc, but a gap. What stands between
- * the rows, or behind the last one, is not looked at. `objects` 0 stands for as many as persons. The arcs are those of the entries that
- * are no gap, row by row; SIGDORF_TOO_MANY_ARCS tells of more than 33,554,432 such entries.
+ * of person i and object j is at costs[i * stride + j], and an entry that equals `none` is no arc, but a gap. What is between
+ * the rows, or after the last one, is not read. `objects` 0 means as many as persons. The arcs are those of the entries that
+ * are no gap, row by row; SIGDORF_TOO_MANY_ARCS means more than 33,554,432 such entries.
  *
  * All of sigdorf_solve's statuses and fields hold of this problem, but for three of them:
  * SIGDORF_OPTIMAL, SIGDORF_BRACKET: choice[i] is the OBJECT of person i. His entry for it is no gap, and costs what his arc costs. The

@@ -258,7 +258,7 @@ pub fn infeasible(
     requires { IsHallSetOf problem.now persons objects }
     ensures { IfOk result (IsInfeasibleAnswer problem.now) }
 {
-    // Read here, so that the proof knows the invariant of the problem.
+    // Read here, so that the proof has the invariant of the problem.
     let _ = problem.arcs();
     let parts = CertParts::Infeasible { persons, objects };
     match certified(alloc, problem, parts)? {

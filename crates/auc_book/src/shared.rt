@@ -114,7 +114,7 @@ impl<T: Copy, N: MailBrand> SharedMail<T, N> {
         ensures { IsNumbered N.boxes N.workers N.nodes N.most N.room result }
     {
         let locked = self.locked.lock(rt);
-        // Read here, so that the proof knows the invariant of the state under the lock.
+        // Read here, so that the proof has the invariant of the state under the lock.
         let _ = locked.state();
         HeldMail::new(locked, self.bells.as_slice())
     }

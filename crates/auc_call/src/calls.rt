@@ -16,13 +16,13 @@ use crate::solving::solve_into;
 use crate::telling::{tell_checked, tell_solved};
 use std::alloc::Global;
 
-/// Solves a problem: a least-cost assignment, persons who together know too few objects, or, where the bids don't
+/// Solves a problem: a least-cost assignment, persons who have arcs to too few objects, or, where the bids don't
 /// suffice, an assignment and a bound on what any costs.
 ///
 /// `choice` and `hall_objects` have a place for each person, and `prices` one for each object. After
 /// [`OPTIMAL`](crate::OPTIMAL) and [`BRACKET`](crate::BRACKET) `choice` holds for each person the place in `given.arcs`
 /// of his arc, and `prices` the prices that show it; after [`INFEASIBLE`](crate::INFEASIBLE) `choice` begins with
-/// `found.persons` persons, and `hall_objects` with the `found.objects` objects that they know, both rising. All else
+/// `found.persons` persons, and `hall_objects` with the `found.objects` objects of their arcs, both rising. All else
 /// stays as it was.
 ///
 /// The solver is the direct one, [`auc_direct::solve_direct`], or from a start [`auc_direct::solve_direct_from`],
@@ -109,7 +109,7 @@ pub fn check_call(
     tell_checked(checked, found)
 }
 
-/// Checks that these persons together know none but these objects, which are fewer, whoever found them. Both rise. It
+/// Checks that these persons have arcs to none but these objects, which are fewer, whoever found them. Both rise. It
 /// takes O(arcs + persons + objects) time, and memory for a copy of the arcs.
 ///
 /// What [`solve_call`] answers as [`INFEASIBLE`](crate::INFEASIBLE) passes, unless memory is refused.

@@ -59,7 +59,7 @@ pub(crate) fn check_at(
     checked_of(alloc, &problem, &cert)
 }
 
-/// Checks that these persons together know none but these objects, which are fewer.
+/// Checks that these persons have arcs to none but these objects, which are fewer.
 pub(crate) fn check_hall_at(
     alloc: Global,
     given: &GivenArcs,

@@ -1,4 +1,4 @@
-//! Faults and limits as numbers, for callers that know no enum. Kinds are counted from 1.
+//! Faults and limits as numbers, for callers that have no enum. Kinds are counted from 1.
 
 ghost use Rattle.std.specs.Prelude.{◌≡◌};
 ghost use Rattle.auc_call.specs.Codes.{list_kind, list_place, start_kind, start_place, limit_kind, refused_kind};

@@ -1,6 +1,6 @@
-//! What a call tells beside its status.
+//! What a call returns beside its status.
 
-/// What a call tells beside its status: each field under the statuses that name it, and else as it was.
+/// What a call returns beside its status: each field under the statuses that name it, and else as it was.
 #[repr(C)]
 #[derive(Clone, Copy, Debug, PartialEq, Eq)]
 pub struct Found {
@@ -8,9 +8,9 @@ pub struct Found {
     pub cost: i64,
     /// What no assignment costs less than: of [`BRACKET`](crate::BRACKET).
     pub lower: i64,
-    /// How many persons together know too few objects: of [`INFEASIBLE`](crate::INFEASIBLE).
+    /// How many persons together have arcs to too few objects: of [`INFEASIBLE`](crate::INFEASIBLE).
     pub persons: u32,
-    /// How many objects these persons know: of [`INFEASIBLE`](crate::INFEASIBLE).
+    /// How many objects these persons have arcs to: of [`INFEASIBLE`](crate::INFEASIBLE).
     pub objects: u32,
     /// Which limit ended a phase, or which fault there is, from 1: of [`BRACKET`](crate::BRACKET),
     /// [`REFUSED`](crate::REFUSED), [`START`](crate::START) and [`INVALID`](crate::INVALID).

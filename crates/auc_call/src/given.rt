@@ -7,7 +7,7 @@ use auc_graph::Arc;
 pub struct GivenArcs<'a> {
     /// How many persons there are.
     pub persons: u32,
-    /// How many objects there are; 0 stands for as many as persons.
+    /// How many objects there are; 0 means as many as persons.
     pub objects: u32,
     /// The arcs.
     pub arcs: &'a [Arc],

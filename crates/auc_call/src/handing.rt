@@ -82,7 +82,7 @@ pub(crate) fn hand_bracket(
     }
 }
 
-/// Hands out persons who together know too few objects, and these objects.
+/// Hands out persons who together have arcs to too few objects, and these objects.
 pub(crate) fn hand_hall(
     problem: &ArcList,
     cert: &Cert,
@@ -97,7 +97,7 @@ pub(crate) fn hand_hall(
         (memory choice.new prices.now set.new) result }
     ensures written { IsWritten problem.now cert.now (memory choice.new prices.now set.new) result }
 {
-    // Read here, so that the proof knows what every problem keeps.
+    // Read here, so that the proof has what every problem keeps.
     let _ = problem.arcs();
     match cert.parts() {
         CertParts::Infeasible { persons, objects } => {

@@ -1,4 +1,4 @@
-//! The picks that places of arcs stand for.
+//! The picks that places of arcs mean.
 
 ghost use Rattle.std.specs.Prelude.{◌≡◌, ◌<◌, ◌^◌, length, IfOk, IfErr};
 ghost use Rattle.auc_claim.specs.Claim.{chosen, pick_of};

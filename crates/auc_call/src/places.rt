@@ -7,7 +7,7 @@ ghost use Rattle.auc_call.specs.Memory.{AreAt};
 use auc_claim::Pick;
 use auc_graph::Arc;
 
-/// Whether at these places of the list the arcs stand that picks name, person by person.
+/// Whether at these places of the list are the arcs that picks name, person by person.
 fn are_places(arcs: &[Arc], picks: &[Pick], places: &[u32]) -> bool
     ensures { result ≡ true → AreAt arcs.now places.now (chosen 0 picks.now) }
 {

@@ -8,7 +8,7 @@ use auc_claim::Reason;
 use auc_graph::ListFault;
 use std::alloc::AllocError;
 
-/// What was found, but for what stands in the caller's memory.
+/// What was found, but for what is in the caller's memory.
 #[derive(Clone, Copy, Debug, PartialEq, Eq)]
 pub enum Solved {
     Optimal {

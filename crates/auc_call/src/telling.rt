@@ -1,4 +1,4 @@
-//! What a call tells: a status, and a few fields.
+//! What a call returns: a status, and a few fields.
 
 ghost use Rattle.std.specs.Prelude.{◌≡◌};
 ghost use Rattle.auc_call.specs.Telling.{failed_status, failed_found, solve_status, solve_found, check_status};
@@ -12,7 +12,7 @@ use crate::found::Found;
 use crate::solved::{Failed, Solved};
 use crate::status::{BRACKET, INFEASIBLE, INVALID, MEMORY, OPTIMAL, REFUSED, SIZES, START};
 
-/// Tells why nothing was found.
+/// Writes why nothing was found.
 fn tell_failed(failed: Failed, found: &mut Found) -> i32
     ensures status { result ≡ failed_status failed }
     ensures found { found.new ≡ failed_found failed found.old }
@@ -33,7 +33,7 @@ fn tell_failed(failed: Failed, found: &mut Found) -> i32
     }
 }
 
-/// Tells what a solve comes to.
+/// Writes what a solve comes to.
 pub fn tell_solved(solved: Result<Solved, Failed>, found: &mut Found) -> i32
     ensures status { result ≡ solve_status solved }
     ensures found { found.new ≡ solve_found solved found.old }
@@ -64,7 +64,7 @@ pub fn tell_solved(solved: Result<Solved, Failed>, found: &mut Found) -> i32
     }
 }
 
-/// Tells what a check comes to.
+/// Writes what a check comes to.
 pub(crate) fn tell_checked(checked: Result<Checked, Failed>, found: &mut Found) -> i32
     ensures status { result ≡ check_status checked }
     ensures found { found.new ≡ check_found checked found.old }

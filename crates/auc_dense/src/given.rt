@@ -5,9 +5,9 @@
 pub struct GivenTable<'a> {
     /// How many rows there are.
     pub persons: u32,
-    /// How many entries a row has; 0 stands for as many as persons.
+    /// How many entries a row has; 0 means as many as persons.
     pub objects: u32,
-    /// The entries: the cost of person `i` and object `j` stands at `costs[i * stride + j]`.
+    /// The entries: the cost of person `i` and object `j` is at `costs[i * stride + j]`.
     pub costs: &'a [i64],
     /// How many places a row begins after the one before it.
     pub stride: usize,

@@ -7,7 +7,7 @@ ghost use Rattle.auc_dense.specs.TableSolving.{AreNamed, named};
 use auc_call::Solved;
 use auc_graph::Arc;
 
-/// Puts in place of each place the object of the arc that stands there.
+/// Replaces each place by the object of the arc at it.
 fn take_objects(arcs: &[Arc], choice: &mut [u32])
     requires { All (λ place. place < length arcs.now) choice.old }
     ensures { choice.new ≡ objects_at arcs.now choice.old }

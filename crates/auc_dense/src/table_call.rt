@@ -14,7 +14,7 @@ use auc_call::{Found, Run, tell_solved};
 use std::alloc::Global;
 
 /// Solves as [`auc_call::solve_call`] does, but the problem of a table. The arcs are those of the entries that are no
-/// gap, row by row. What stands between rows and after the last one is not looked at.
+/// gap, row by row. What is between rows and after the last one is not read.
 ///
 /// After [`auc_call::OPTIMAL`] and [`auc_call::BRACKET`] `choice` holds for each person his object in place of his arc.
 /// After [`auc_call::REFUSED`] a cost's `found.place` is that of the entry in a table whose stride is the number of

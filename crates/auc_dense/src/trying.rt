@@ -25,7 +25,7 @@ fn are_plain(prices: &[i64]) -> bool
     true
 }
 
-/// Whether an entry is a gap, or worth no less than this with its price.
+/// Whether an entry is a gap, or has at least this value with its price.
 #[inline(always)]
 fn is_no_better(cost: i64, gap: i64, price: i64, least: i64) -> bool
     requires price { IsPlainPrice price }
@@ -36,7 +36,7 @@ fn is_no_better(cost: i64, gap: i64, price: i64, least: i64) -> bool
     cost == gap || least - price <= cost
 }
 
-/// Whether no entry of a row that is no gap is worth less than this.
+/// Whether no entry of a row that is no gap has a lower value than this.
 // It goes through the whole row, so that the compiler takes several entries at a time.
 #[inline(never)]
 fn is_none_below(row: &[i64], gap: i64, prices: &[i64], least: i64) -> bool

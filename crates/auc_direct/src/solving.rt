@@ -99,7 +99,7 @@ fn answer_of(
         outcome.holdings.owns.items }
     ensures { IfOk result (IsTold problem.now flat outcome.ending outcome.holdings.prices.items) }
 {
-    // Read here, so that the proof knows the invariant of the problem.
+    // Read here, so that the proof has the invariant of the problem.
     let _ = problem.arcs();
     let Outcome { ending, holdings } = outcome;
     let each_has_one = holdings.all_have();

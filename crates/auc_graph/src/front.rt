@@ -28,7 +28,7 @@ fn digit_of(byte: u8) -> u32
     (byte as u32).wrapping_sub(b'0' as u32)
 }
 
-/// The separators that may stand after a short number.
+/// The separators that may come after a short number.
 #[derive(Clone, Copy)]
 pub(crate) enum Separators {
     /// A space or a line feed: nearly all files have no others, and to test for these alone is fastest.

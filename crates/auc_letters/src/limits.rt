@@ -1,4 +1,4 @@
-//! The limits of eps and of shards, and the number that stands for nobody.
+//! The limits of eps and of shards, and the number that means nobody.
 
 /// The greatest eps, 2 to the 60th, in scaled costs. The least is 1.
 pub const MOST_EPS: i64 = 1_152_921_504_606_846_976;

@@ -70,7 +70,7 @@ impl Holdings {
             self.old.owns.items self.new.owns.items w.free) }
         ensures halt { IfErr result (IsHalt rows.now) }
     {
-        // Read here, so that the proof knows the invariant of the rows.
+        // Read here, so that the proof has the invariant of the rows.
         let _ = rows.persons();
         let is_found = search.find(rows, self, person)?;
         let scanned = search.scanned;

@@ -86,7 +86,7 @@ pub(crate) fn bid_of(rows: &FlatRows, eps: i64, _person: u32, best: Best, prices
     ensures offer { IsOffer (scale_in rows.now) rows.now.spread eps prices.now
         (flat_row_of rows.now _person) result.arc result.amount }
 {
-    // Read here, so that the proof knows the invariant of the rows.
+    // Read here, so that the proof has the invariant of the rows.
     let _ = rows.persons();
     let arc = best.arc;
     let margin = margin_of(rows, best);

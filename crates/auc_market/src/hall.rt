@@ -50,7 +50,7 @@ pub(crate) fn hall_set_of(
     requires { length is_in.now ≡ length rows.now.rows }
     ensures { IfOk result (λ o. IfSome o (λ h. IsShortHallSet rows.now h.persons.items h.objects.items)) }
 {
-    // Read here, so that the proof knows the invariant of the rows.
+    // Read here, so that the proof has the invariant of the rows.
     let _ = rows.persons();
     let seen = known_to(alloc, rows, is_in)?;
     let persons = places_of(alloc, is_in)?;

@@ -1,4 +1,4 @@
-//! Files that are no problem but something else, told by the token that is no number. The signatures are those that the
+//! Files that are no problem but something else, seen by the token that is no number. The signatures are those that the
 //! formats fix: gzip (RFC 1952), bzip2, xz, Zstandard (RFC 8878), zip, byte order marks (Unicode), MatrixMarket and
 //! DIMACS.
 
@@ -138,7 +138,7 @@ fn bad_number(refusal: Option<Refusal>) -> Option<u64>
     }
 }
 
-/// What the first file is, where it was refused for a token that is no number and stands at this place.
+/// What the first file is, where it was refused for a token at this place that is no number.
 pub(crate) fn form_told(ending: Ending, place: &Option<Place>) -> Option<Form>
     ensures { result ≡ form_told ending place.now }
 {

@@ -1,5 +1,5 @@
 //! What the program says on standard error about a job that didn't end with status 0: one sentence on one line, which
-//! names the input, the place in it, what stands there, what was wanted, and what to do; of a file in another form that
+//! names the input, the place in it, what is there, what was wanted, and what to do; of a file in another form that
 //! is known, which form it is. And which words ask for a page about the program in place of a job.
 #![tactic(auto)]
 

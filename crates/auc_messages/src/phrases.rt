@@ -1,5 +1,5 @@
 //! What is said of each refusal, and of each status without one: what was wrong or wanted, and what to do. A place
-//! stands before it, and the quoted token.
+//! is before it, and the quoted token.
 
 ghost use Rattle.std.specs.Prelude.{◌≡◌, IsTrue};
 ghost use Rattle.auc_messages.specs.Phrases.{phrase_of_certificate, phrase_of_claim, phrase_of_end, phrase_of_input};
@@ -143,7 +143,7 @@ fn of_reason(reason: Reason) -> &'static [u8]
     }
 }
 
-/// Of a status, where nothing was refused and no limit is told.
+/// Of a status, where nothing was refused and no limit is named.
 #[tactic(auto, unfolding(crate::specs::Phrases::phrase_of_status))]
 fn of_status(status: u8) -> &'static [u8]
     ensures words { result.now ≡ phrase_of_status status }

@@ -65,7 +65,7 @@ fn remark_of_end(status: u8, reason: Option<Reason>) -> Remark
     }
 }
 
-/// Why a job was refused, where that is told: not where it wasn't written.
+/// Why a job was refused, where that is said: not where it wasn't written.
 pub(crate) fn told_refusal(ending: Ending) -> Option<Refusal>
     ensures { result ≡ told_refusal ending }
 {
@@ -76,7 +76,7 @@ pub(crate) fn told_refusal(ending: Ending) -> Option<Refusal>
     }
 }
 
-/// Which limit ended the search, where that is told: not where the answer wasn't written.
+/// Which limit ended the search, where that is said: not where the answer wasn't written.
 fn told_reason(ending: Ending) -> Option<Reason>
     ensures { result ≡ told_reason ending }
 {
@@ -94,7 +94,7 @@ pub fn remark_of(job: &Job, ending: Ending) -> Option<Remark>
     // It is about the input that was refused, and the spot in it; where the answer was not written, it is about that
     // alone.
     ensures is { IfSome result (IsRemark job.now ending) }
-    // Its words are those of the refusal that is told; where none is, of the limit that ended the search; and without
+    // Its words are those of the refusal that is said; where none is, of the limit that ended the search; and without
     // one, of the status.
     ensures words { IfSome result (HasWords ending) }
     // They say something, on one line.
@@ -109,8 +109,8 @@ pub fn remark_of(job: &Job, ending: Ending) -> Option<Remark>
     }
 }
 
-/// What is to be said of the end of this job where its token is known to stand at this place, if it is: as
-/// [`remark_of`]; but a first file that is no problem, and begins as files of another form do, is told to be of that
+/// What is to be said of the end of this job where its token is known to be at this place, if it is: as
+/// [`remark_of`]; but a first file that is no problem, and begins as files of another form do, is said to be of that
 /// form, with what to do.
 pub fn remark_at(job: &Job, ending: Ending, place: &Option<Place>) -> Option<Remark>
     ensures silent { ending.status ≡ 0 → result ≡ None }

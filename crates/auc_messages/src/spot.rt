@@ -97,7 +97,7 @@ fn spot_in_script(error: ScriptError) -> Spot
     }
 }
 
-/// Where in its input a refusal stands.
+/// The place in its input that a refusal is about.
 pub(crate) fn spot_of(refusal: Refusal) -> Spot
     ensures { result ≡ spot_of refusal }
 {

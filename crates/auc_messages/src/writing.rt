@@ -22,7 +22,7 @@ fn quote_end(whole: bool) -> &'static [u8]
     if whole { b"\"" } else { b"...\"" }
 }
 
-/// Writes where a token stands in the input of this name.
+/// Writes where a token is in the input of this name.
 fn write_place<W: Write>(writer: &mut W, name: &str, place: &Place) -> Result<(), WriteFault>
     ensures { Writes result (W.contents writer.old) (W.contents writer.new) (place_words name.now place.now) }
 {
@@ -37,7 +37,7 @@ fn write_place<W: Write>(writer: &mut W, name: &str, place: &Place) -> Result<()
     write_parts(writer, &parts)
 }
 
-/// Writes what stands after the first bytes of a token.
+/// Writes what comes after the first bytes of a token.
 fn write_end<W: Write>(writer: &mut W, whole: bool, phrase: &[u8]) -> Result<(), WriteFault>
     ensures { Writes result (W.contents writer.old) (W.contents writer.new) (quoted_end whole phrase.now) }
 {
@@ -50,7 +50,7 @@ fn write_end<W: Write>(writer: &mut W, whole: bool, phrase: &[u8]) -> Result<(),
     write_parts(writer, &parts)
 }
 
-/// Writes the first bytes of a token, and what stands after them.
+/// Writes the first bytes of a token, and what comes after them.
 fn write_quoted<W: Write>(writer: &mut W, place: &Place, phrase: &[u8]) -> Result<(), WriteFault>
     ensures { Writes result (W.contents writer.old) (W.contents writer.new)
         (map shown_byte place.now.front.items ++ quoted_end place.now.whole phrase.now) }
@@ -140,7 +140,7 @@ fn write_alone<W: Write>(writer: &mut W, phrase: &[u8]) -> Result<(), WriteFault
 }
 
 /// Writes what is to be said, in one sentence: `name` is that of the input that it is about, if any, and `place` the
-/// place where its token stands, if that is known. Takes no memory.
+/// place of its token, if that is known. Takes no memory.
 ///
 /// # Errors
 ///

@@ -158,7 +158,7 @@ impl ObjectShard {
         ensures none { IfNone result ((bid : Bid) → IsBidIn self.now letter bid → ⊥) }
         ensures sound { AreObjects self.now }
     {
-        // Read here, so that the proof knows the invariant of the shard.
+        // Read here, so that the proof has the invariant of the shard.
         let _ = &self.sales;
         let Letter::Bid {
             person,

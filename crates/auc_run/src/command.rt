@@ -7,7 +7,7 @@ pub const MOST_BIDS: u64 = 1_000_000_000_000;
 #[derive(Clone, Copy, Debug, PartialEq, Eq)]
 pub enum Job {
     /// Reads a problem from the first reader, and finds an assignment of least cost with prices that show it, or
-    /// persons who together know too few objects; or, where the bids don't do, an assignment and a bound below which
+    /// persons who have arcs to too few objects; or, where the bids don't do, an assignment and a bound below which
     /// none costs.
     Solve {
         /// How many threads do the work of each kind of shard: 0 to 16, and 0 for none.
@@ -34,12 +34,12 @@ pub enum Job {
         objects: u32,
     },
     /// Reads a problem from the first reader, and finds an arc for each person, no object twice, or persons who
-    /// together know too few objects.
+    /// together have arcs to too few objects.
     Hall {
         /// How many objects the problem has, as for a solve.
         objects: u32,
     },
-    /// Reads a script from the first reader, makes its calls on a new mail, and tells the replies.
+    /// Reads a script from the first reader, makes its calls on a new mail, and writes the replies.
     Mail,
 }
 

@@ -8,7 +8,7 @@ use auc_claim::Reason;
 pub struct Ending {
     /// One of [`crate::status`].
     pub status: u8,
-    /// Why the job was refused, where it was; also where the line that tells it was not written.
+    /// Why the job was refused, where it was; also where the line that says so was not written.
     pub refusal: Option<Refusal>,
     /// Which limit ended the search, where the answer is an assignment and a bound; also where it was not written.
     pub reason: Option<Reason>,

@@ -7,6 +7,6 @@ use auc_claim::{Cert, Picks};
 pub enum Found {
     /// The pick of each person: an assignment, of whatever cost.
     Full(Picks),
-    /// Persons who together know fewer objects than they number.
+    /// Persons who together have arcs to fewer objects than they number.
     Hall(Cert),
 }

@@ -1,4 +1,4 @@
-//! The job of a hall: a problem is read, and each person gets an arc, or persons are named who know too few objects.
+//! The job of a hall: a problem is read, and each person gets an arc, or a Hall violator is named.
 
 ghost use Rattle.std.specs.Prelude.{◌≡◌, ◌≤◌, IfOk};
 ghost use Rattle.auc_claim.specs.Spelled.{AreNamed};
@@ -27,12 +27,12 @@ fn certificate_of(persons: Indices, objects: Indices) -> Cert
     }
 }
 
-/// An arc for each person of the problem, or persons who together know too few objects.
+/// An arc for each person of the problem, or a Hall violator.
 fn found_in(alloc: Global, problem: &ArcList) -> Result<Found, AllocError>
     ensures found { IfOk result (IsFound problem.now) }
     ensures small { IfOk result IsSmall }
 {
-    // Read here, so that the proof knows what every problem keeps.
+    // Read here, so that the proof has what every problem keeps.
     let _ = problem.arcs();
     let rows = Rows::build(alloc, problem)?;
     let partial = Partial::new(alloc, &rows)?;

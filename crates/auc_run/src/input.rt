@@ -46,7 +46,7 @@ const PIECE: usize = 65_536;
 /// # Errors
 ///
 /// [`ReadFault::Failed`] at the first read that fails, also by an interrupt: no read is tried again.
-/// [`ReadFault::TooManyReads`] where `limit` reads gave bytes each. After an error the reader stands where the last
+/// [`ReadFault::TooManyReads`] where `limit` reads gave bytes each. After an error the reader is where the last
 /// read left it. [`ReadFault::NoMemory`] at once, where memory was refused, also before the first read.
 ///
 /// Takes O(length) time and memory, and 64 kB of memory for a piece, which are asked for before the first read: none of

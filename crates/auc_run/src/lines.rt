@@ -1,4 +1,4 @@
-//! The line that tells what a claim says, or a refusal.
+//! The line that says a claim, or a refusal.
 
 ghost use Rattle.std.specs.Prelude.{◌+◌};
 ghost use Rattle.auc_cert.specs.Writing.{Writes, counted};

@@ -16,7 +16,7 @@ pub(crate) fn problem_of<R: Read>(
 ) -> Result<ArcList, Refusal>
     requires { objects ≤ 20000 }
     ensures problem { IsProblemIn objects (R.remaining reader.old) result }
-    // Want of memory is told as a fault of the reading.
+    // Want of memory is given as a fault of the reading.
     ensures memory { IfErr result (λ refusal. refusal ≢ Refusal.NoMemory) }
 {
     let limits = ReadLimits {

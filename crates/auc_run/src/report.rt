@@ -1,4 +1,4 @@
-//! What a job has to tell: how it is written, and its status.
+//! What a job has to say: how it is written, and its status.
 
 ghost use Rattle.std.specs.Prelude.{◌≡◌, ◌≢◌, ◌<◌, IfOk};
 ghost use Rattle.std.specs.Io.KnownBytes.{Appends};
@@ -26,7 +26,7 @@ use auc_script::{Replies, ScriptError, write_replies};
 use auc_world::Answer;
 use std::io::Write;
 
-/// What a job has to tell, where it is not refused.
+/// What a job has to say, where it is not refused.
 #[derive(Debug, Drop)]
 pub enum Report {
     /// The answer of a solve.

@@ -1,4 +1,4 @@
-//! The job of a solve: a problem is read, and a least-cost assignment is found, persons who together know too few
+//! The job of a solve: a problem is read, and a least-cost assignment is found, persons who have arcs to too few
 //! objects, or an assignment and a bound.
 
 ghost use Rattle.std.specs.Prelude.{◌≡◌, ◌≤◌, false, IfSome, IsErr};

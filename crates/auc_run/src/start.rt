@@ -94,7 +94,7 @@ pub(crate) fn started_of<R: Read, Q: Read>(
     let problem = problem_of(alloc, reader, objects)?;
     let bytes = read_all(alloc, second, MOST_READS)?;
     let cert = read_cert(alloc, bytes.as_slice())?;
-    // Read here, so that the proof knows what every certificate keeps.
+    // Read here, so that the proof has what every certificate keeps.
     let _ = cert.parts();
     let prices = prices_of(alloc, &problem, &cert, direct)?;
     Ok(Started { problem, prices })

@@ -7,6 +7,6 @@ pub enum Valid {
     Optimal { cost: i64 },
     /// That there is an assignment of this cost, and that none costs less than `lower`.
     Bracket { lower: i64, cost: i64 },
-    /// That so many persons together know at most so many objects, fewer than they.
+    /// That so many persons together have arcs to at most so many objects, fewer than they.
     Infeasible { persons: usize, objects: usize },
 }

@@ -26,7 +26,7 @@ pub(crate) fn least_value(row: &[i64], keys: &[i64]) -> i64 {
     least
 }
 
-/// The first object whose entry is worth this.
+/// The first object whose entry has this value.
 pub(crate) fn object_of_value(row: &[i64], keys: &[i64], value: i64) -> Option<usize>
     ensures row { IfSome result (λ object. object < length row.now) }
     ensures keys { IfSome result (λ object. object < length keys.now) }

@@ -118,7 +118,7 @@ fn solve_rows(
     ensures run { (start : Option (List ℤ)) → Begins rows.now start eps prices.items
         → IfOk result (IsOfRun problem.now limits.now start) }
 {
-    // Read here, so that the proof knows the invariants of the problem and its rows.
+    // Read here, so that the proof has the invariants of the problem and its rows.
     let _ = problem.arcs();
     let _ = rows.objects();
     let mut prices = prices;

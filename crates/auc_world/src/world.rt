@@ -113,7 +113,7 @@ impl<'a> World<'a> {
         ensures copies { IfOk result
             (λ w. (s j : ℕ) → s < limits.now.shards → (world_of w).copy s j ≡ slice_index_or prices.now j (pos 0)) }
     {
-        // Read here, so that the proof knows the invariant of the rows.
+        // Read here, so that the proof has the invariant of the rows.
         let _ = rows.persons();
         let bidders = new_bidders(alloc, limits.shards, rows)?;
         let world = World::assemble(alloc, rows, limits, prices, eps, bidders)?;

@@ -7,7 +7,7 @@ use auc_run::Job;
 pub struct Watching {
     /// How many seconds the program may take until it ends the search: to 1,000,000, and 0 for any number.
     pub seconds: u64,
-    /// Whether it tells on standard error, once a second, how far it has come.
+    /// Whether it says on standard error, once a second, how far it has come.
     pub progress: bool,
 }
 

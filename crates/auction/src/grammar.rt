@@ -22,7 +22,7 @@ fn with_option<'a>(
     command.arg(Arg::new(alloc, name).long(name))
 }
 
-/// One more flag, `--NAME`. It has no value of its own, and stands for `true`; where it isn't given, it has none.
+/// One more flag, `--NAME`. It has no value of its own, and means `true`; where it isn't given, it has none.
 fn with_flag<'a>(
     alloc: Global,
     command: Command<'a>,

@@ -34,13 +34,13 @@ use words_error::WordsError;
 use wrong_words::fault_of;
 
 /// The most reads that look for the place of a token, 4,096 bytes each: in the first 64 MiB of a file. A token that
-/// stands after them is told by its number, so that the answer isn't long past when the sentence comes.
+/// comes after them is named by its number, so that the answer isn't long past when the sentence comes.
 const MOST_PLACE_READS: u32 = 16_384;
 
 /// Linux's number of the error of a read where a descriptor is not open, or not for reading.
 const NOT_OPEN: i32 = 9;
 
-/// How a job ended; or the status alone, where standard error has been told why already.
+/// How a job ended; or the status alone, where standard error says why already.
 type Ended = Result<Ending, u8>;
 
 /// The words that the program was started with, without its name. One that is not UTF-8 is at fault.
@@ -93,7 +93,7 @@ fn answer<R: Print + Eprint + Clock + AllocGlobal + Threads + Wait + Sync, A: Re
     Ok(ending)
 }
 
-/// Opens a file, or tells on standard error why not.
+/// Opens a file, or says on standard error why not.
 fn open<R: Files + Eprint, E: Write>(rt: &R, errors: &mut E, name: &str) -> Option<R::File> {
     match File::open(rt, name) {
         Ok(file) => Some(file),
@@ -127,8 +127,8 @@ fn with_second<
     }
 }
 
-/// Where the token stands that the end of the job is about, looked up in the first file; none where there is no such
-/// token, it stands too far after, or the file can't be read a second time, as a pipe.
+/// Where the token is that the end of the job is about, looked up in the first file; none where there is no such
+/// token, it is too far after, or the file can't be read a second time, as a pipe.
 fn place_in<F: Read + Seek>(file: &mut F, job: &Job, ended: &Ended) -> Option<Place> {
     let Ok(ending) = ended else {
         return None;
@@ -159,7 +159,7 @@ fn name_of(words: &Words, subject: Subject) -> Option<&str> {
     }
 }
 
-/// Tells the end of a job, where its status isn't 0 and nothing has been told yet, and gives the status.
+/// Says the end of a job, where its status isn't 0 and nothing has been said yet, and gives the status.
 fn conclude<E: Write>(errors: &mut E, words: &Words, ended: Ended, place: &Option<Place>) -> u8 {
     let ending = match ended {
         Ok(ending) => ending,
@@ -222,7 +222,7 @@ fn status_of(error: WordsError) -> u8
     }
 }
 
-/// Tells on standard error why the words are no job, and gives the status.
+/// Says on standard error why the words are no job, and gives the status.
 fn refuse<R: Eprint>(rt: &R, error: WordsError) -> u8
     ensures { result ≡ words_status error }
 {

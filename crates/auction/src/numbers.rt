@@ -52,7 +52,7 @@ fn number_of(
     }
 }
 
-/// How many objects the problem is to have; 0, as without the option, stands for as many as persons.
+/// How many objects the problem is to have; 0, as without the option, means as many as persons.
 pub(crate) fn objects_of(matches: &ArgMatches<'_>) -> Result<u32, WordsError>
     ensures given { IfOk result (HasObjects (first_value (found_of matches.now) (codes "objects"))) }
     ensures refused { IfErr result
@@ -114,7 +114,7 @@ fn look_together(
     Ok(())
 }
 
-/// The solve that the options ask for. A number that is wrong is told before options that don't go together.
+/// The solve that the options ask for. A number that is wrong is named before options that don't go together.
 pub(crate) fn solve_of_options(matches: &ArgMatches<'_>) -> Result<Solve, WordsError>
     ensures solve { IsSolveOf (λ name. first_value (found_of matches.now) name) result }
     ensures range { IfOk result (λ s. IsInRange s.job) }

@@ -1,4 +1,4 @@
-//! The watch over a direct solve: it ends the search when its time is up, and tells how far it has come.
+//! The watch over a direct solve: it ends the search when its time is up, and says how far it has come.
 
 ghost use Rattle.std.specs.Prelude.{◌≡◌, false, true};
 
@@ -14,7 +14,7 @@ pub(crate) struct Timer<'a, R> {
     watching: Watching,
     /// When it began; none where the clock can't be read.
     start: Option<Instant>,
-    /// How many seconds had passed when a line was told last.
+    /// How many seconds had passed when a line was written last.
     told: u64,
     /// Which phase is played, from 1 on.
     phase: u32,
@@ -51,7 +51,7 @@ impl<'a, R: Clock + Eprint> Timer<'a, R> {
         }
     }
 
-    /// Tells how far the run has come, once a second.
+    /// Says how far the run has come, once a second.
     fn tell(&mut self, seconds: Option<u64>, progress: Progress) {
         let Some(seconds) = seconds else {
             return;

@@ -5,13 +5,13 @@ use std::alloc::{AllocError, Global};
 use std::io::Write;
 use strsim::jaro;
 
-/// How alike a wrong word and a right one are at least that is told beside it, from 0 to 1: that of `clap`.
+/// How alike a wrong word and a right one are at least that is named beside it, from 0 to 1: that of `clap`.
 const ALIKE: f64 = 0.7;
 
 /// What is wrong with some words.
 #[derive(Debug, Drop)]
 pub(crate) struct WordFault<'a> {
-    // What stands before the word in the sentence, the word, and what stands after it where no right word is near.
+    // What is before the word in the sentence, the word, and what is after it where no right word is near.
     before: &'static str,
     word: Option<&'a str>,
     after: &'static str,

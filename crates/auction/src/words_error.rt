@@ -10,7 +10,7 @@ use thiserror::Error;
 /// where it can't say which argument is at fault (`wrong_words.rt`).
 #[derive(Clone, Copy, Debug, PartialEq, Eq, Error)]
 pub enum WordsError {
-    /// They are none that the program knows.
+    /// They are none that the program has.
     #[error("auction: these arguments are no command; see auction --help")]
     Usage,
     /// They ask for a trail without threads.

@@ -1,5 +1,5 @@
-//! Which of some words that are no job is at fault, and what was wanted. Whether words are a job, the parser tells
-//! (`words.rt`); this tells why not.
+//! Which of some words that are no job is at fault, and what was wanted. Whether words are a job, the parser says
+//! (`words.rt`); this says why not.
 
 use crate::numbers::{MOST_AUDIT, MOST_OBJECTS, MOST_SECONDS, MOST_WORKERS, number_in};
 use crate::word_fault::{WordFault, nearest};
@@ -103,7 +103,7 @@ fn is_option(word: &str) -> bool {
     word.len() > 1 && word.starts_with('-')
 }
 
-/// The part of an option before its value, and the value where it stands in the same word.
+/// The part of an option before its value, and the value where it is in the same word.
 fn parts_of(word: &str) -> (&str, Option<&str>) {
     match word.split_once('=') {
         Some((option, value)) => (option, Some(value)),
@@ -175,7 +175,7 @@ impl<'a> Walk<'a> {
         None
     }
 
-    /// Goes past an option of the command, and its value where that stands in the same word.
+    /// Goes past an option of the command, and its value where that is in the same word.
     fn option(&mut self, wanted: Wanted, word: &'a str) -> Option<WordFault<'a>> {
         let (option, value) = parts_of(word);
         match value {

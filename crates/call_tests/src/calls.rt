@@ -33,7 +33,7 @@ const TWO: [Arc; 4] = [
     },
 ];
 
-/// Two persons who know one object together.
+/// Two persons with arcs to one object together.
 const BOTH: [Arc; 2] = [
     Arc {
         cost: 1,
@@ -93,7 +93,7 @@ fn optimal(rt: HostRuntime) {
     assert_same(&rt, (status, found.kind), (INVALID, 4));
 }
 
-/// The second person doesn't know the second object here, so it is no full table, which would be searched without bids.
+/// The second person has no arc to the second object here, so it is no full table, which is searched without bids.
 #[test]
 fn bracket_and_start(rt: HostRuntime) {
     let (mut choice, mut prices, mut objects, mut found) = ([7; 2], [7; 2], [7; 2], NOTHING);

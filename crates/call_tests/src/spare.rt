@@ -46,7 +46,7 @@ fn outlets() -> [Arc; 12] {
     ]
 }
 
-/// What a solve of them has told, and what stands in the caller's memory then.
+/// What a solve of them has returned, and what is in the caller's memory then.
 #[derive(Clone, Copy)]
 struct Behind {
     status: i32,

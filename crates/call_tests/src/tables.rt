@@ -5,10 +5,10 @@ use auc_call::{BRACKET, Found, INFEASIBLE, OPTIMAL, REFUSED, Run, SIZES, START};
 use auc_dense::{GivenTable, solve_table_call};
 use std::test::*;
 
-/// No arc stands where this number does.
+/// No arc is where this number is.
 const GAP: i64 = -7;
 
-/// What stands between rows, and would be refused among the entries.
+/// What is between rows, and would be refused among the entries.
 const UNSEEN: i64 = i64::MIN;
 
 const NOTHING: Found = Found {
@@ -23,7 +23,7 @@ const NOTHING: Found = Found {
 /// Two persons and three objects, with a place between their rows: the least cost is 3.
 const TABLE: [i64; 7] = [1, 2, GAP, UNSEEN, 1, 4, 9];
 
-/// What a solve of two persons has told, and what stands in the caller's memory then.
+/// What a solve of two persons has returned, and what is in the caller's memory then.
 #[derive(Clone, Copy)]
 struct Behind {
     status: i32,
@@ -68,7 +68,7 @@ fn solved(
     }
 }
 
-/// From nothing, and from the prices that stand then.
+/// From nothing, and from the prices that are there then.
 #[test]
 fn optimal(rt: HostRuntime) {
     let told = solved(&rt, &TABLE, 4, GAP, &[], 1000);
@@ -102,7 +102,7 @@ fn bracket_and_start(rt: HostRuntime) {
     );
 }
 
-/// Both know the second object alone.
+/// Both have arcs to the second object alone.
 #[test]
 fn infeasible(rt: HostRuntime) {
     let told = solved(&rt, &[GAP, 1, GAP, GAP, 1, GAP], 3, GAP, &[], 1000);

@@ -59,7 +59,7 @@ fn refusal_of(rt: &HostRuntime, text: &[u8]) -> Option<ReadError> {
     read_arcs(rt.alloc(), text, limits_of(1, 1)).err()
 }
 
-/// What stands after the last arc that is allowed is not looked at.
+/// What comes after the last arc that is allowed is not read.
 #[test]
 fn too_many_arcs(rt: HostRuntime) {
     let too_many = Some(ReadError::TooManyArcs);

@@ -40,10 +40,10 @@ const FROM: Job = Job::Solve {
 /// Prices of 0 for three objects.
 const NO_PRICES: &str = "auction 2\noptimal 1 3 7\nassign 1 2 7\nprice 1 0\nprice 2 0\nprice 3 0\n";
 
-/// The certificate of two persons, who both know both objects.
+/// The certificate of two persons, who both have arcs to both objects.
 const BEST: &str = "auction 1\noptimal 2 3\nassign 1 2 2\nassign 2 1 1\nprice 1 6\nprice 2 3\n";
 
-/// Two persons, of whom the second doesn't know the second object: so it is no full table, and goes by bids.
+/// Two persons, of whom the second has no arc to the second object: so it is no full table, and goes by bids.
 const PART: &str = "2\n1 1 1\n1 2 2\n2 1 1\n";
 
 /// What one bid leaves of it.

@@ -20,7 +20,7 @@ impl<'a> Read for Slow<'a> {
     }
 }
 
-/// A reader that fails after its bytes, which it does not tell.
+/// A reader that fails after its bytes, which it does not say.
 #[derive(Drop)]
 pub struct Broken<'a> {
     pub rest: &'a [u8],

@@ -1,4 +1,4 @@
-//! What no case of the built program can tell of jobs and of the crates below: readers and writers that fail, jobs that
+//! What no case of the built program can show of jobs and of the crates below: readers and writers that fail, jobs that
 //! no words spell, parts that no text spells, and each public call once with ample memory. Rows that the program can
 //! show are cases (`cases/`).
 #![tactic(auto)]

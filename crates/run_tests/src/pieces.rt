@@ -170,7 +170,7 @@ fn long_tokens(rt: HostRuntime) -> Result<(), Fail> {
     Ok(())
 }
 
-/// The reader takes 65,536 bytes at a time: a problem stands at each place round the end of the first piece.
+/// The reader takes 65,536 bytes at a time: a problem is at each place round the end of the first piece.
 #[test]
 fn round_the_end_of_a_piece(rt: HostRuntime) -> Result<(), Fail> {
     let alloc = rt.alloc();

@@ -18,7 +18,7 @@ pub const TWO_BEST: &str =
 pub const TWO_BRACKET: &str =
     "auction 1\nbracket bids 2 3 4\nassign 1 1 1\nassign 2 2 3\nprice 1 4\nprice 2 0\n";
 
-/// Two persons who both know the first object alone.
+/// Two persons who both have arcs to the first object alone.
 pub const ONE_OBJECT: &str = "2\n1 1 5\n2 1 7\n";
 
 /// The certificate that names them.

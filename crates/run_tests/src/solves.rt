@@ -117,7 +117,7 @@ fn failed_reads(rt: HostRuntime) {
     }
 }
 
-/// Each write fails or takes nothing in turn: just what was taken before stands there, and no write is tried again.
+/// Each write fails or takes nothing in turn: just what was taken before is there, and no write is tried again.
 #[test]
 fn failed_writes(rt: HostRuntime) {
     for good in 0..TWO_BEST.len() {

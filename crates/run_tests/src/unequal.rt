@@ -10,13 +10,13 @@ use auc_claim::{Cert, CertParts, CertRefused, Pick, Picks, Prices, Reason, check
 use auc_graph::{ArcList, Indices, ReadError, ReadLimits, read_arcs};
 use std::test::*;
 
-/// One person, who knows two objects.
+/// One person, who has arcs to two objects.
 const ONE: &str = "1\n1 1 5\n1 2 3\n";
 
 /// The certificate of the best.
 const ONE_BEST: &str = "auction 2\noptimal 1 2 3\nassign 1 2 3\nprice 1 0\nprice 2 5\n";
 
-/// Two persons who know one object together, the last but few.
+/// Two persons with arcs to one object together, the last but few.
 const FAR: &str = "2\n1 15000 5\n2 15000 7\n";
 
 /// The certificate that names them.
@@ -96,7 +96,7 @@ fn claims(rt: HostRuntime) -> Result<(), Fail> {
     Ok(())
 }
 
-/// An object that is left over may stand after as many objects as there are persons, and two may have a price.
+/// An object that is left over may come after as many objects as there are persons, and two may have a price.
 #[test]
 fn left_over(rt: HostRuntime) -> Result<(), Fail> {
     let last = "auction 2\noptimal 1 3 3\nassign 1 2 3\nprice 1 0\nprice 2 5\nprice 3 1\n";

@@ -2,7 +2,7 @@
 //!
 //! Each export takes what a C program holds: numbers, references to `#[repr(C)]` structs, and slices as a pointer and a
 //! length. What a call answers is a status; the rest goes out through `&mut`. No call keeps anything after its return.
-//! What the caller owes stands at the top of `c/sigdorf.h`.
+//! What the caller owes is at the top of `c/sigdorf.h`.
 #![tactic(auto)]
 
 ghost use Rattle.std.specs.Prelude.{◌≡◌, ◌≢◌, length, pos};
@@ -168,7 +168,7 @@ pub extern "C" fn sigdorf_check(
     check_call(alloc, &given, choice, prices, cost, found)
 }
 
-/// Checks that these persons together know none but these objects, which are fewer: see [`auc_call::check_hall_call`].
+/// Checks that these persons have arcs to none but these objects, which are fewer: see [`auc_call::check_hall_call`].
 #[unsafe(no_mangle)]
 pub extern "C" fn sigdorf_check_hall(
     alloc: Global,

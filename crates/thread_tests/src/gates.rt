@@ -94,7 +94,7 @@ impl Gate for HoldingGate {
     }
 }
 
-/// Solves the problem of two persons with two shards of each kind, behind this gate, which no worker passes too late.
+/// Solves the problem of two persons with two shards of each kind, with this gate, which no worker passes too late.
 fn solves_behind<R: Threads + Wait + Abort + Sync>(
     rt: &R,
     alloc: Global,

@@ -29,7 +29,7 @@ impl<'a> Model for Task<'a> {
     ghost view = { λ t. record { table = t.rows.now; limits = t.limits.now; prices = t.prices.now; eps = t.eps } };
 }
 
-/// Whether the machine with one shard of each kind may stand in for a `World`, which is so where:
+/// Whether the machine with one shard of each kind may replace a `World`, which is so where:
 ///
 /// - there is one shard of each kind;
 /// - as many letters may wait as is usual;
@@ -51,7 +51,7 @@ impl<'a> Task<'a> {
         ensures is { result ≡ record { table = rows.now; limits = limits.now; prices = prices.now; eps = eps } }
         ensures given { IsGiven result }
     {
-        // Read here, so that the proof knows the invariant of the rows.
+        // Read here, so that the proof has the invariant of the rows.
         let _ = rows.persons();
         Task {
             rows,

@@ -1,0 +1,83 @@
+/* One call of the library over one problem, and its memory: prints the arcs or entries, the caller's bytes of each, and the bytes
+ * of each at the peak of the process, without what the process had before. Linux alone: the peak is VmHWM of /proc/self/status.
+ *
+ *     memory CALL SHAPE PERSONS DEGREE
+ *
+ * CALL is solve, messages or dense. SHAPE is uniform (DEGREE objects of each person, one of them planted; of dense a full table), gaps (of
+ * dense: a table with DEGREE entries a row at most) or products (all pairs, whose cost is the product of the two numbers). */
+#include "../../c/sigdorf.h"
+#include <stdio.h>
+#include <stdlib.h>
+#include <string.h>
+
+static uint64_t state = 1;
+
+/* A number below a bound, by the generator of Knuth's MMIX. */
+static uint32_t drawn(uint32_t bound) {
+    state = state * UINT64_C(6364136223846793005) + UINT64_C(1442695040888963407);
+    return (uint32_t)((state >> 33) % bound);
+}
+
+/* The greatest memory that the process has had so far, in bytes. */
+static double peak(void) {
+    FILE *status = fopen("/proc/self/status", "r");
+    char line[256];
+    long kilobytes = -1;
+    while (status && fgets(line, sizeof line, status))
+        if (sscanf(line, "VmHWM: %ld kB", &kilobytes) == 1)
+            break;
+    if (status)
+        fclose(status);
+    return 1024.0 * (double)kilobytes;
+}
+
+/* Memory that has been written, so that it counts from now on. */
+static void *taken(size_t bytes) {
+    void *place = malloc(bytes ? bytes : 1);
+    if (!place)
+        exit(6);
+    memset(place, 0, bytes ? bytes : 1);
+    return place;
+}
+
+static int64_t cost_of(const char *shape, uint32_t person, uint32_t object) {
+    return strcmp(shape, "products") ? 1 + (int64_t)drawn(10000) : (int64_t)(person + 1) * (object + 1);
+}
+
+int main(int words, char **word) {
+    if (words != 5)
+        return 2;
+    const char *call = word[1], *shape = word[2];
+    uint32_t persons = (uint32_t)atoi(word[3]), degree = (uint32_t)atoi(word[4]);
+    int is_dense = !strcmp(call, "dense"), is_full = !strcmp(shape, "products");
+    size_t count = is_dense ? (size_t)persons * persons : (size_t)persons * (is_full ? persons : degree);
+    size_t size = is_dense ? sizeof(int64_t) : sizeof(sigdorf_arc);
+    void *given = taken(count * size);
+    uint32_t *choice = taken(persons * sizeof *choice), *set = taken(persons * sizeof *set);
+    int64_t *prices = taken(persons * sizeof *prices), none = INT64_MAX;
+    int has_gaps = !strcmp(shape, "gaps");
+    for (size_t place = 0; is_dense && place < count; place++)
+        ((int64_t *)given)[place] = has_gaps ? none : cost_of(shape, (uint32_t)(place / persons), (uint32_t)(place % persons));
+    uint32_t width = is_full ? persons : degree;
+    for (size_t place = 0; (!is_dense || has_gaps) && place < (size_t)persons * width; place++) {
+        uint32_t person = (uint32_t)(place / width), column = (uint32_t)(place % width);
+        uint32_t object = is_full ? column : column ? drawn(persons) : person;
+        int64_t cost = cost_of(shape, person, object);
+        if (is_dense)
+            ((int64_t *)given)[(size_t)person * persons + object] = cost;
+        else
+            ((sigdorf_arc *)given)[place] = (sigdorf_arc){cost, person, object};
+    }
+    sigdorf_found found = {0};
+    double before = peak();
+    int32_t status;
+    if (is_dense)
+        status = sigdorf_solve_dense(persons, persons, given, count, persons, none, prices, 0, SIGDORF_USUAL_BIDS, choice, persons, prices,
+                                     persons, set, persons, &found);
+    else
+        status = (strcmp(call, "messages") ? sigdorf_solve : sigdorf_solve_by_messages)(
+            persons, persons, given, count, prices, 0, SIGDORF_USUAL_BIDS, choice, persons, prices, persons, set, persons, &found);
+    printf("%s %s %u: %zu, %zu bytes of yours, %.1f in all, status %d\n", call, shape, persons, count, size,
+           (double)size + (peak() - before) / (double)count, (int)status);
+    return 0;
+}

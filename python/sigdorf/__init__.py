@@ -5,6 +5,7 @@
     linear_sum_assignment(cost_matrix)              as SciPy's call of this name, dense or sparse
     min_weight_full_bipartite_matching(matrix)      as SciPy's call of this name
     match(costs, limit)                             the best pairs of at most a limit; whoever has none stays free
+    max_cardinality_match(costs)                    as many pairs as possible, and of all such choices the cheapest
     lapjv(cost, cost_limit=limit)                   the same as the package `lap` has it
     solve_many(problems, threads)                   solves many problems, over threads
     certify(rows, columns, table)                   anybody's assignment, with prices that show it to be the least, or how far it is off
@@ -23,9 +24,11 @@ del numpy
 
 from .assignment import check, solve
 from .best import Ranked, k_best
+from .cardinality import max_cardinality_match
 from .certified import certify
 from .faults import Infeasible, Mistyped, Refused, Unsettled
-from .gated import Match, lapjv, match
+from .gated import Match, match
+from .lap_calls import lapjv
 from .library import USUAL_BIDS
 from .many import solve_many
 from .scipy_calls import linear_sum_assignment, min_weight_full_bipartite_matching
@@ -47,6 +50,7 @@ __all__ = [
     "lapjv",
     "linear_sum_assignment",
     "match",
+    "max_cardinality_match",
     "min_weight_full_bipartite_matching",
     "solve",
     "solve_many",

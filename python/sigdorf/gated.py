@@ -6,14 +6,12 @@ import numpy
 from numpy.typing import ArrayLike
 
 from . import fast
-from .amounts import exact_sum, nearest_float
-from .arguments import MOST_OBJECTS, attempt, is_whole, truth
+from .arguments import MOST_OBJECTS, attempt, is_whole
 from .asked import NO_ASSIGNMENT, Asked, bids_of
 from .costs import costs_of
 from .faults import Unsettled
 from .library import USUAL_BIDS
 from .problem import Lists, Problem
-from .scipy_calls import linear_sum_assignment
 from .shown import equal, hashed, shown_list, shown_pairs, unequal
 
 
@@ -71,10 +69,18 @@ def match(
     >>> found.rows.tolist(), found.columns.tolist(), found.free_rows.tolist()
     ([0, 1], [0, 1], [2])
     """
+    asked = asked_to_match(costs, rows, columns, shape, maximize)
+    return matched(asked, _limit_of(asked.costs, limit), bids_of(bids))
+
+
+def asked_to_match(costs, rows, columns, shape, maximize):
+    """What is asked with a table, or with a list of costs and its rows and columns."""
     listed = rows is not None or columns is not None
-    asked = Asked(rows, columns, costs, shape, maximize) if listed else Asked(costs, shape=shape, maximize=maximize)
-    bids = bids_of(bids)
-    limit = _limit_of(asked.costs, limit)
+    return Asked(rows, columns, costs, shape, maximize) if listed else Asked(costs, shape=shape, maximize=maximize)
+
+
+def matched(asked, limit, bids):
+    """The Match of one limit: a whole number of the costs' type, or a float."""
     found = fast.found(asked.plain(_as_limit(asked.costs, limit)), asked.maximize, False, limit, None, bids)
     if found is None:
         return _by_lists(asked, limit, bids)
@@ -99,7 +105,9 @@ def _limit_of(costs, limit):
 
 def _as_limit(costs, limit):
     """The costs as numbers that can be compared with the limit; none is rounded."""
-    return costs.astype(numpy.float64) if type(limit) is float and costs.dtype.kind in "biu" else costs
+    if type(limit) is float and costs.dtype.kind in "biu":
+        return costs.astype(numpy.float64)
+    return costs.astype(numpy.int64) if costs.dtype.kind == "u" and limit < 0 else costs
 
 
 def _by_lists(asked, limit, bids):
@@ -138,30 +146,3 @@ def _without_outlets(lists, entries):
     free = (numpy.setdiff1d(numpy.arange(side), held) for side, held in zip(lists.sides, (rows, columns)))
     named = lists.named(rows, columns)
     return Match(rows, columns, *free, lists.costs[entries], named and list(zip(*named)))
-
-
-def lapjv(cost: ArrayLike, extend_cost: bool = False, cost_limit: float = math.inf, return_cost: bool = True) -> tuple:
-    """As the call of this name of the package `lap`: the sum, the column of each row, and the row of each column, -1 for none.
-
-    cost: a matrix; as many rows as columns, unless `extend_cost` is True. What is infinite is no pair.
-    cost_limit: no pair dearer than this is made; see :func:`match`.
-    return_cost: whether the sum is wanted; else the two arrays of int32 alone are answered.
-
-    Raises Infeasible where there is no limit and no full assignment, and what :func:`match` does.
-
-    >>> total, of_row, of_column = sigdorf.lapjv([[1.0, 9.0], [9.0, 8.0]], cost_limit=2.0)
-    >>> total, of_row.tolist(), of_column.tolist()
-    (1.0, [0, -1], [0, -1])
-    """
-    matrix = numpy.asarray(cost)
-    if matrix.ndim != 2:
-        raise ValueError("2-dimensional array expected")
-    if matrix.shape[0] != matrix.shape[1] and not truth(extend_cost, "extend_cost"):
-        raise ValueError("Square cost array expected. If cost is intentionally non-square, pass extend_cost=True.")
-    rows, columns = linear_sum_assignment(matrix) if cost_limit == math.inf else match(matrix, cost_limit)[:2]
-    of_row, of_column = numpy.full(matrix.shape[0], -1, numpy.int32), numpy.full(matrix.shape[1], -1, numpy.int32)
-    of_row[rows], of_column[columns] = columns, rows
-    if not truth(return_cost, "return_cost"):
-        return of_row, of_column
-    costs = matrix[rows, columns]
-    return nearest_float(exact_sum(costs.astype(numpy.float64) if costs.dtype.kind == "f" else costs)), of_row, of_column

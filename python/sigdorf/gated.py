@@ -6,12 +6,13 @@ import numpy
 from numpy.typing import ArrayLike
 
 from . import fast
-from .arguments import MOST_OBJECTS, attempt, is_whole
+from .arguments import MOST_OBJECTS, MOST_PERSONS, attempt, is_whole
 from .asked import NO_ASSIGNMENT, Asked, bids_of
 from .costs import costs_of
 from .faults import Unsettled
 from .library import USUAL_BIDS
-from .problem import Lists, Problem
+from .limits import in_one_type, is_listed, limits_of, with_all_outlets, with_outlets
+from .problem import Problem
 from .shown import equal, hashed, shown_list, shown_pairs, unequal
 
 
@@ -43,22 +44,25 @@ class Match(typing.NamedTuple):
 
 def match(
     costs: typing.Any,
-    limit: float,
+    limit: float | ArrayLike,
     *,
+    column_limit: float | ArrayLike | None = None,
     rows: ArrayLike | None = None,
     columns: ArrayLike | None = None,
     shape: typing.Sequence[int] | None = None,
     maximize: bool = False,
     bids: int = USUAL_BIDS,
 ) -> Match:
-    """The pairs whose costs, less the limit each, have the least sum: as if each pair that isn't made cost the limit.
+    """The pairs whose costs have the least sum together with what stays free: each row that has no column costs the limit, as each pair does that isn't made.
 
     So no pair dearer than the limit is made, and one more pair is made only where the others don't pay more than it gains. A pair of just the
     limit counts as much as none. The sum is exact, of floats too: no other pairs have a smaller one.
 
     costs: a table as :func:`solve` takes it (a matrix, dense or sparse, or a DataFrame), or with `rows` and `columns` one list. Of a matrix
         what is infinite is no pair.
-    limit: a finite number. Where costs are whole numbers beyond 2^53, it is whole.
+    limit: what a row costs that stays free: a finite number, or a list with one of each row. Where costs are whole numbers beyond 2^53, it is whole.
+    column_limit: what a column costs that stays free, where that isn't nothing: a number, or a list with one of each column. Then a pair costs
+        its row's and its column's limit together at most, and rows and columns number 10,000 at most together.
     rows, columns, shape: those of :func:`solve`. Rows and columns number 20,000 at most together.
     maximize: whether the most is wanted: then no pair of less than the limit is made.
     bids: that of :func:`solve`.
@@ -68,9 +72,13 @@ def match(
     >>> found = sigdorf.match([[1.0, 9.0, 9.0], [9.0, 0.5, 9.0], [9.0, 0.75, 9.0]], 2.0)
     >>> found.rows.tolist(), found.columns.tolist(), found.free_rows.tolist()
     ([0, 1], [0, 1], [2])
+    >>> sigdorf.match([[1.0, 9.0], [9.0, 4.0]], [2.0, 3.0], column_limit=[0.0, 1.0])
+    Match(pairs={0: 0, 1: 1}, free_rows=[], free_columns=[])
     """
-    asked = asked_to_match(costs, rows, columns, shape, maximize)
-    return matched(asked, _limit_of(asked.costs, limit), bids_of(bids))
+    asked, bids = asked_to_match(costs, rows, columns, shape, maximize), bids_of(bids)
+    if column_limit is not None or is_listed(limit):
+        return _by_own_limits(asked, limit, column_limit, bids)
+    return matched(asked, _limit_of(asked.costs, limit), bids)
 
 
 def asked_to_match(costs, rows, columns, shape, maximize):
@@ -114,35 +122,42 @@ def _by_lists(asked, limit, bids):
     """The Match, where the extension has none."""
     lists = asked.lists
     values = fast.plain(_as_limit(lists.costs, limit))
-    if sum(lists.sides) > MOST_OBJECTS:
-        raise ValueError(f"rows and columns must number {MOST_OBJECTS:,} at most together")
-    # What isn't finite is refused before some costs are left out.
-    costs_of(lists.costs, None, asked.maximize, lists.fault)
+    _look_at_lists(asked)
+    by_columns, persons = lists.sides[0] > lists.sides[1], min(lists.sides)
     some = numpy.flatnonzero(values >= limit if asked.maximize else values <= limit)
-    problem = Problem(_with_outlets(lists, some, values, limit), asked.maximize, None)
-    solution = problem.solution(None, bids, NO_ASSIGNMENT)
+    sides = (lists.columns, lists.rows) if by_columns else (lists.rows, lists.columns)
+    more = with_outlets(*(side[some] for side in sides), values[some], numpy.full(persons, limit, values.dtype), max(lists.sides))
+    return _matched(asked, Problem(more, asked.maximize, None).solution(None, bids, NO_ASSIGNMENT), some)
+
+
+def _by_own_limits(asked, limit, column_limit, bids):
+    """The Match of limits of rows, and of columns or none."""
+    lists = asked.lists
+    _look_at_lists(asked)
+    limits = limits_of(limit, lists.sides[0], "limit", "row")
+    if column_limit is None:
+        more = with_outlets(lists.rows, lists.columns, *in_one_type(lists.costs, limits), lists.sides[1])
+    else:
+        column_limits = limits_of(column_limit, lists.sides[1], "column_limit", "column")
+        if sum(lists.sides) > MOST_PERSONS:
+            raise ValueError(f"rows and columns must number {MOST_PERSONS:,} at most together where columns have limits")
+        more = with_all_outlets(lists, *in_one_type(lists.costs, limits, column_limits))
+    return _matched(asked, Asked.of_lists(more, asked.maximize).solution(None, bids), numpy.arange(len(lists.costs)))
+
+
+def _look_at_lists(asked):
+    """A ValueError where there are too many rows and columns, or where a cost isn't finite, before some are left out."""
+    if sum(asked.sides) > MOST_OBJECTS:
+        raise ValueError(f"rows and columns must number {MOST_OBJECTS:,} at most together")
+    costs_of(asked.lists.costs, None, asked.maximize, asked.lists.fault)
+
+
+def _matched(asked, solution, some):
+    """The pairs of a solution with outlets, whose first entries are some of the caller's, and what stays free."""
     if solution.gap:
         raise Unsettled(solution)
-    return _without_outlets(lists, some[solution.entries[solution.entries < len(some)]])
-
-
-def _with_outlets(lists, some, values, limit):
-    """The lists of these entries, with a way out for each of the smaller side that is its own and costs the limit."""
-    by_columns = lists.sides[0] > lists.sides[1]
-    persons, objects = (lists.columns, lists.rows) if by_columns else (lists.rows, lists.columns)
-    mine = numpy.arange(min(lists.sides))
-    return Lists(
-        numpy.concatenate([persons[some], mine]),
-        numpy.concatenate([objects[some], max(lists.sides) + mine]),
-        numpy.concatenate([values[some], numpy.full(len(mine), limit, values.dtype)]),
-        (len(mine), sum(lists.sides)),
-    )
-
-
-def _without_outlets(lists, entries):
-    """The pairs of these entries, by rising rows, and who stays free."""
+    lists, entries = asked.lists, some[solution.entries[solution.entries < len(some)]]
     entries = entries[numpy.argsort(lists.rows[entries])]
     rows, columns = lists.rows[entries], lists.columns[entries]
     free = (numpy.setdiff1d(numpy.arange(side), held) for side, held in zip(lists.sides, (rows, columns)))
-    named = lists.named(rows, columns)
-    return Match(rows, columns, *free, lists.costs[entries], named and list(zip(*named)))
+    return Match(rows, columns, *free, lists.costs[entries], asked.labels(rows, columns))

@@ -1,6 +1,7 @@
 """What a caller asks for, made plain, and the one road to an answer."""
 from . import fast
 from .arguments import HIGHEST_START, INT64, MOST_BIDS, number, truth, whole_numbers
+from .claims import check_claim
 from .costs import MOST_DECIMALS
 from .faults import Unsettled
 from .library import START_FAULTS, USUAL_BIDS
@@ -104,6 +105,10 @@ class Asked:
             found = self.problem.solution_of_units(found)
         labels = self.labels(found.rows, found.columns)
         return found if labels is None else found._replace(labels=labels)
+
+    def check(self, solution):
+        """Raises Refused where a Solution isn't least."""
+        check_claim(self.problem, solution)
 
     def pairs(self, bids, words, asks=True):
         """Rows and columns of the least pairs, and Unsettled where the bids didn't suffice for them. `asks` says whether the extension wasn't asked before."""

@@ -5,11 +5,14 @@ import typing
 
 from numpy.typing import ArrayLike
 
-from .asked import Asked, bids_of
-from .claims import check_claim
+from .asked import bids_of
 from .library import USUAL_BIDS
+from .restricted import asked_of
 from .slices import Slices, progress_of, seconds_of, solve_in_slices
 from .solution import Solution
+
+# Rows and columns by numbers, or by names where the table has them.
+Pairs = typing.Iterable[tuple[typing.Any, typing.Any]]
 
 
 def solve(
@@ -20,6 +23,9 @@ def solve(
     *,
     maximize: bool = False,
     decimals: int | None = None,
+    forced: Pairs | None = None,
+    forbidden: Pairs | None = None,
+    capacity: int | ArrayLike | None = None,
     start: ArrayLike | None = None,
     bids: int = USUAL_BIDS,
     seconds: float | None = None,
@@ -42,6 +48,10 @@ def solve(
     maximize: whether the most is wanted.
     decimals: 0 to 9, for floats that stand for decimal numbers: what counts is costs * 10^decimals, which must be whole numbers to 10^9 in
         magnitude, and a float must be the one nearest to such a number, of its own type.
+    forced, forbidden: lists of pairs (row, column), by numbers, or by names where the table has them: the assignment has each forced pair, and no
+        forbidden one. A forced pair is an entry.
+    capacity: how many rows a column may take, a whole number or a list with one of each column. Each row gets a column then, and a column stands in
+        the solution as often as it is taken.
     start: the prices of an earlier solution of as many rows and columns, from which a run may be shorter, on the scale of whole costs times
         the smaller side + 1 (of decimals, 10^decimals times that). They may be wrong: any from 0 to 2^60.
     bids: how many bids a phase may take, from 0 to 2^64 - 1.
@@ -59,9 +69,11 @@ def solve(
     >>> solution = sigdorf.solve([0, 0, 1, 1], [0, 1, 0, 1], [1, 2.5, 1, 4])
     >>> solution.rows.tolist(), solution.columns.tolist(), solution.cost
     ([0, 1], [1, 0], 3.5)
+    >>> sigdorf.solve([[1, 2], [1, 4], [1, 3]], forced=[(0, 1)], capacity=2)
+    Solution(cost=4, pairs={0: 1, 1: 0, 2: 0})
     """
     began = time.monotonic()
-    asked = Asked(rows, columns, costs, shape, maximize, decimals)
+    asked = asked_of(rows, columns, costs, shape, maximize, decimals, forced, forbidden, capacity)
     start, bids = asked.start_of(start), bids_of(bids)
     if seconds is None and progress is None:
         return asked.solution(start, bids)
@@ -78,6 +90,9 @@ def check(
     *,
     maximize: bool = False,
     decimals: int | None = None,
+    forced: Pairs | None = None,
+    forbidden: Pairs | None = None,
+    capacity: int | ArrayLike | None = None,
 ) -> None:
     """Raises :class:`Refused` where a solution isn't an assignment of this problem than which none costs less, as its prices show.
 
@@ -92,4 +107,4 @@ def check(
         ...
     sigdorf.faults.Refused: number 0 has a better entry at these prices
     """
-    check_claim(Asked(rows, columns, costs, shape, maximize, decimals).problem, solution)
+    asked_of(rows, columns, costs, shape, maximize, decimals, forced, forbidden, capacity).check(solution)

@@ -6,7 +6,6 @@ from numpy.typing import ArrayLike
 
 from .arguments import INT64, whole_numbers
 from .asked import NO_ASSIGNMENT, Asked, bids_of
-from .claims import check_claim
 from .faults import Refused, Unsettled
 from .library import USUAL_BIDS
 from .solution import Solution
@@ -43,7 +42,7 @@ def certify(rows: ArrayLike, columns: ArrayLike, table: typing.Any, *, maximize:
     if cost != least.exact_cost:
         raise Refused(_told(asked, cost, least))
     claim = least._replace(rows=rows, columns=columns, entries=entries, labels=asked.labels(rows, columns))
-    check_claim(asked.problem, claim)
+    asked.check(claim)
     return claim
 
 

@@ -19,37 +19,46 @@ from .whole import whole_prices
 MOST_UNIT, MOST_BITS = 2 * FINEST, 4 * FINEST
 # So many entries are looked at at a time, to take little memory.
 BLOCK = 1 << 20
+NO_ENTRY = "the solution names an entry that the problem doesn't have"
 # Above what floats below the least normal one may be off by.
 LEAST = 1e-322
 
 
 def check_claim(problem, solution):
     """Raises Refused, with a sentence, where the solution isn't least."""
-    if not isinstance(solution, Solution):
-        raise Refused(f"a Solution is wanted, and not a {type(solution).__name__}")
+    look_at_kind(solution)
     choice = _choice_of(problem, solution)
     cost = problem.costs.total(choice)
     if _amount(solution.cost) != problem.costs.shown(cost):
         raise Refused(CLAIM_FAULTS[4])
     if problem.persons == 0:
-        _look_at_free_prices(_whole_list(solution.prices, problem.objects))
+        _look_at_free_prices(whole_list(solution.prices, problem.objects))
     elif problem.has_whole_costs:
-        prices = _listed(solution.prices, "prices", INT64, problem.objects, CLAIM_FAULTS[2])
+        prices = listed_of(solution.prices, "prices", INT64, problem.objects, CLAIM_FAULTS[2])
         check_arcs(problem.persons, problem.objects, problem.arcs, choice, prices, int(problem.arcs["cost"][choice].sum()))
     else:
         _check_exactly(problem, solution, choice)
     _look_at_amounts(problem, solution, cost)
-    labels = problem.labels(solution.rows, solution.columns)
+    look_at_labels(problem.labels(solution.rows, solution.columns), solution)
+
+
+def look_at_kind(solution):
+    """Refuses what is no Solution."""
+    if not isinstance(solution, Solution):
+        raise Refused(f"a Solution is wanted, and not a {type(solution).__name__}")
+
+
+def look_at_labels(labels, solution):
+    """Refuses a solution with other labels."""
     if type(solution.labels) is not type(labels) or attempt(lambda given: given == labels, solution.labels) is not True:
         raise Refused("the labels of the solution are not those of its rows and columns")
 
 
 def _choice_of(problem, solution):
     """The place of an arc of each person, of a solution whose pairs are entries of the problem."""
-    fault = "the solution names an entry that the problem doesn't have"
-    entries = _listed(solution.entries, "entries", (0, len(problem.arcs) - 1), problem.persons, fault)
+    entries = listed_of(solution.entries, "entries", (0, len(problem.arcs) - 1), problem.persons, NO_ENTRY)
     for name, side in (("rows", problem.lists.rows), ("columns", problem.lists.columns)):
-        places = _listed(getattr(solution, name), name, INT64, problem.persons, OTHER_SIZE)
+        places = listed_of(getattr(solution, name), name, INT64, problem.persons, OTHER_SIZE)
         if not numpy.array_equal(places, side[entries]):
             raise Refused("the rows and columns of the solution are not those of its entries")
     return entries[numpy.argsort(problem.arcs["person"][entries], kind="stable")]
@@ -82,7 +91,7 @@ def _check_exactly(problem, solution, choice):
     if len(numpy.unique(objects[choice])) != problem.persons:
         raise Refused("a number is taken twice")
     unit = _unit_of(solution.scale, problem.persons + 1)
-    prices = whole_prices(problem.persons, _whole_list(solution.prices, problem.objects), objects[choice])
+    prices = whole_prices(problem.persons, whole_list(solution.prices, problem.objects), objects[choice])
     if problem.objects > problem.persons:
         if min(prices) < 0:
             raise Refused(CLAIM_FAULTS[2])
@@ -148,10 +157,10 @@ def _unit_of(scale, step):
     return int(times).bit_length() - 1
 
 
-def _whole_list(value, count):
+def whole_list(value, count):
     """One list of so many whole numbers of any length, as an object array of Python's."""
     if not (isinstance(value, (list, tuple)) or isinstance(value, numpy.ndarray) and value.dtype == object and value.ndim == 1):
-        return _listed(value, "prices", INT64, count, CLAIM_FAULTS[2]).astype(object)
+        return listed_of(value, "prices", INT64, count, CLAIM_FAULTS[2]).astype(object)
     if len(value) != count:
         raise Refused(OTHER_SIZE)
     if not all(map(is_whole, value)):
@@ -163,7 +172,7 @@ def _whole_list(value, count):
     return listed
 
 
-def _listed(value, name, limits, count, fault):
+def listed_of(value, name, limits, count, fault):
     """One list of whole numbers of a solution, so many of them; what is beyond the limits is refused by this fault."""
     try:
         listed = whole_numbers(value, f"{name} of the solution", *INT64)

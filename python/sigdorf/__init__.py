@@ -9,6 +9,7 @@
     lapjv(cost, cost_limit=limit)                   the same as the package `lap` has it
     solve_many(problems, threads)                   solves many problems, over threads
     certify(rows, columns, table)                   anybody's assignment, with prices that show it to be the least, or how far it is off
+    Edges(rows, columns, costs)                     pairs by names, as a long table or a graph of networkx has them, in place of a table
     k_best(table, k)                                the k best assignments, the best first
 
 Costs count exactly as they stand, floats too (docs/EXACT.md). Where there is no full assignment, each raises Infeasible, which names the rows
@@ -26,6 +27,7 @@ from .assignment import check, solve
 from .best import Ranked, k_best
 from .cardinality import max_cardinality_match
 from .certified import certify
+from .edges import Edges
 from .faults import Infeasible, Mistyped, Refused, Unsettled
 from .gated import Match, match
 from .lap_calls import lapjv
@@ -36,6 +38,7 @@ from .solution import Solution
 
 __version__ = "1.1"
 __all__ = [
+    "Edges",
     "Infeasible",
     "Match",
     "Mistyped",

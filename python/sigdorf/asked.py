@@ -3,13 +3,16 @@ from . import fast
 from .arguments import HIGHEST_START, INT64, MOST_BIDS, number, truth, whole_numbers
 from .claims import check_claim
 from .costs import MOST_DECIMALS
+from .edges import Edges
 from .faults import Unsettled
 from .library import START_FAULTS, USUAL_BIDS
-from .matrices import is_sparse, lists_of_matrix, numbers_of
+from .matrices import is_sparse, lists_of_matrix, numbers_of, without_missing
 from .problem import Problem, lists_of
 from .tables import NUMBERS, named
 
 NO_ASSIGNMENT = "no full assignment exists"
+# What missing= may say of cells without a number.
+FORBIDDEN = "forbidden"
 
 
 class Asked:
@@ -18,18 +21,24 @@ class Asked:
     `table` is an array, or None where there are lists alone. An array of the caller's is looked at closer where the extension doesn't take it.
     """
 
-    def __init__(self, rows, columns=None, costs=None, shape=None, maximize=False, decimals=None):
+    def __init__(self, rows, columns=None, costs=None, shape=None, maximize=False, decimals=None, missing=None):
         self.maximize = truth(maximize, "maximize")
         self.decimals = None if decimals is None else number(decimals, "decimals", 0, MOST_DECIMALS)
         self.names, self.table, self._lists, self._problem = NUMBERS, None, None, None
+        if missing is not None and not (isinstance(missing, str) and missing == FORBIDDEN):
+            raise ValueError(f"missing must be {FORBIDDEN!r}, or left out")
+        if missing and (columns is not None or costs is not None or isinstance(rows, Edges)):
+            raise ValueError("missing is of tables alone: leave out the entries that are missing")
         if columns is not None or costs is not None:
             self._lists = lists_of(rows, columns, costs, shape)
         elif shape is not None:
             raise ValueError("a table has a shape of its own")
-        elif type(rows) is fast.ARRAY and decimals is None:
+        elif isinstance(rows, Edges):
+            self._lists, self.names = rows.lists, rows.lists.names
+        elif type(rows) is fast.ARRAY and decimals is None and missing is None:
             self.table = rows
         else:
-            self._take_table(rows)
+            self._take_table(rows, missing)
 
     @classmethod
     def of_lists(cls, lists, maximize, decimals=None):
@@ -38,8 +47,10 @@ class Asked:
         asked.maximize, asked.decimals, asked.names, asked.table, asked._lists, asked._problem = maximize, decimals, NUMBERS, None, lists, None
         return asked
 
-    def _take_table(self, table):
+    def _take_table(self, table, missing):
         values, self.names = named(table)
+        if missing:
+            values = without_missing(values, self.maximize)
         if self.decimals is not None or is_sparse(values):
             self._lists = lists_of_matrix(values, self.maximize, self.names)
         else:

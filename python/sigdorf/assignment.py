@@ -23,6 +23,7 @@ def solve(
     *,
     maximize: bool = False,
     decimals: int | None = None,
+    missing: typing.Literal["forbidden"] | None = None,
     forced: Pairs | None = None,
     forbidden: Pairs | None = None,
     capacity: int | ArrayLike | None = None,
@@ -48,6 +49,7 @@ def solve(
     maximize: whether the most is wanted.
     decimals: 0 to 9, for floats that stand for decimal numbers: what counts is costs * 10^decimals, which must be whole numbers to 10^9 in
         magnitude, and a float must be the one nearest to such a number, of its own type.
+    missing: "forbidden" makes no entries of a table's cells that are NaN, or missing; where it is left out, such cells are a fault.
     forced, forbidden: lists of pairs (row, column), by numbers, or by names where the table has them: the assignment has each forced pair, and no
         forbidden one. A forced pair is an entry.
     capacity: how many rows a column may take, a whole number or a list with one of each column. Each row gets a column then, and a column stands in
@@ -61,7 +63,8 @@ def solve(
     progress: is called after each slice with the bound and the cost of the best so far, as the solution will have them.
 
     In place of the lists there may be one table: a matrix, dense (what is infinite is no entry) or sparse (what isn't stored is none), or a
-    table with `index`, `columns` and `to_numpy`, such as pandas' DataFrame, whose names are in the solution's `labels` and in every fault.
+    table with `index`, `columns` and `to_numpy`, such as pandas' DataFrame, or :class:`Edges`, whose names are in the solution's `labels` and in
+    every fault.
 
     Raises Infeasible where there is no full assignment, ValueError where an argument is at fault (a masked array among them), and MemoryError.
     KeyboardInterrupt gets away from a long call at once; the search itself runs on to its end in a thread of its own, unseen.
@@ -73,7 +76,7 @@ def solve(
     Solution(cost=4, pairs={0: 1, 1: 0, 2: 0})
     """
     began = time.monotonic()
-    asked = asked_of(rows, columns, costs, shape, maximize, decimals, forced, forbidden, capacity)
+    asked = asked_of(rows, columns, costs, shape, maximize, decimals, missing, forced, forbidden, capacity)
     start, bids = asked.start_of(start), bids_of(bids)
     if seconds is None and progress is None:
         return asked.solution(start, bids)
@@ -90,6 +93,7 @@ def check(
     *,
     maximize: bool = False,
     decimals: int | None = None,
+    missing: typing.Literal["forbidden"] | None = None,
     forced: Pairs | None = None,
     forbidden: Pairs | None = None,
     capacity: int | ArrayLike | None = None,
@@ -107,4 +111,4 @@ def check(
         ...
     sigdorf.faults.Refused: number 0 has a better entry at these prices
     """
-    asked_of(rows, columns, costs, shape, maximize, decimals, forced, forbidden, capacity).check(solution)
+    asked_of(rows, columns, costs, shape, maximize, decimals, missing, forced, forbidden, capacity).check(solution)

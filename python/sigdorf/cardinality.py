@@ -21,6 +21,7 @@ def max_cardinality_match(
     columns: ArrayLike | None = None,
     shape: typing.Sequence[int] | None = None,
     maximize: bool = False,
+    missing: typing.Literal["forbidden"] | None = None,
     bids: int = USUAL_BIDS,
 ) -> Match:
     """As many pairs as possible, and of all choices of so many pairs the one of least cost: for tables where not every row can have a column.
@@ -33,7 +34,7 @@ def max_cardinality_match(
     >>> sigdorf.max_cardinality_match([[1, numpy.inf], [0, numpy.inf], [5, 7]])
     Match(pairs={1: 0, 2: 1}, free_rows=[0], free_columns=[])
     """
-    asked = asked_to_match(costs, rows, columns, shape, maximize)
+    asked = asked_to_match(costs, rows, columns, shape, maximize, missing)
     values = asked.costs if asked.table is None else numbers_of(asked.table)
     limit = _beyond(values, min(asked.sides))
     return matched(asked, -limit if asked.maximize else limit, bids_of(bids))

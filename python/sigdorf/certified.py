@@ -11,12 +11,14 @@ from .library import USUAL_BIDS
 from .solution import Solution
 
 
-def certify(rows: ArrayLike, columns: ArrayLike, table: typing.Any, *, maximize: bool = False, bids: int = USUAL_BIDS) -> Solution:
+def certify(
+    rows: ArrayLike, columns: ArrayLike, table: typing.Any, *, maximize: bool = False, missing: typing.Literal["forbidden"] | None = None, bids: int = USUAL_BIDS
+) -> Solution:
     """The :class:`Solution` of an assignment, whoever found it, with prices that show that none costs less; it passes :func:`check`.
 
     rows, columns: the pairs, in any order: whole numbers from 0. SciPy's linear_sum_assignment answers such two.
     table: as :func:`solve` takes it: a matrix, dense or sparse, or a table with names.
-    `maximize` and `bids` are those of :func:`solve`.
+    `maximize`, `missing` and `bids` are those of :func:`solve`.
 
     Raises :class:`Refused` where these pairs are no full assignment of the table, or where one costs less, which the message tells, exactly compared.
     Raises Infeasible where there is no full assignment, Unsettled where a limit ended the search, and ValueError where an argument is at fault.
@@ -28,7 +30,7 @@ def certify(rows: ArrayLike, columns: ArrayLike, table: typing.Any, *, maximize:
         ...
     sigdorf.faults.Refused: the assignment costs 5, and the least one costs 3
     """
-    asked, bids = Asked(table, maximize=maximize), bids_of(bids)
+    asked, bids = Asked(table, maximize=maximize, missing=missing), bids_of(bids)
     rows, columns = (whole_numbers(side, name, *INT64) for side, name in ((rows, "rows"), (columns, "columns")))
     if len(rows) != len(columns):
         raise ValueError("rows and columns must be as many")
@@ -47,7 +49,7 @@ def certify(rows: ArrayLike, columns: ArrayLike, table: typing.Any, *, maximize:
 
 
 def _entries_of(lists, rows, columns):
-    """The places of these pairs among the entries of a table, which rise by rows and columns."""
+    """The places of these pairs among the entries of a table, where each stands once."""
     for name, given, side in (("row", rows, lists.sides[0]), ("column", columns, lists.sides[1])):
         outside = (given < 0) | (given >= side)
         if outside.any():
@@ -58,7 +60,8 @@ def _entries_of(lists, rows, columns):
     if len(rows) != min(lists.sides):
         raise Refused(f"{len(rows)} pairs are no full assignment, which has {min(lists.sides)}")
     places, wanted = lists.rows * lists.sides[1] + lists.columns, rows * lists.sides[1] + columns
-    entries = numpy.searchsorted(places, wanted)
+    order = numpy.argsort(places, kind="stable")
+    entries = numpy.append(order, len(places))[numpy.searchsorted(places, wanted, sorter=order)]
     is_entry = numpy.append(places, -1)[entries] == wanted
     if not is_entry.all():
         place = is_entry.argmin()

@@ -51,6 +51,7 @@ def match(
     columns: ArrayLike | None = None,
     shape: typing.Sequence[int] | None = None,
     maximize: bool = False,
+    missing: typing.Literal["forbidden"] | None = None,
     bids: int = USUAL_BIDS,
 ) -> Match:
     """The pairs whose costs have the least sum together with what stays free: each row that has no column costs the limit, as each pair does that isn't made.
@@ -65,7 +66,7 @@ def match(
         its row's and its column's limit together at most, and rows and columns number 10,000 at most together.
     rows, columns, shape: those of :func:`solve`. Rows and columns number 20,000 at most together.
     maximize: whether the most is wanted: then no pair of less than the limit is made.
-    bids: that of :func:`solve`.
+    missing, bids: those of :func:`solve`.
 
     Raises ValueError where an argument is at fault, and Unsettled where a limit of the search ended it.
 
@@ -75,16 +76,17 @@ def match(
     >>> sigdorf.match([[1.0, 9.0], [9.0, 4.0]], [2.0, 3.0], column_limit=[0.0, 1.0])
     Match(pairs={0: 0, 1: 1}, free_rows=[], free_columns=[])
     """
-    asked, bids = asked_to_match(costs, rows, columns, shape, maximize), bids_of(bids)
+    asked, bids = asked_to_match(costs, rows, columns, shape, maximize, missing), bids_of(bids)
     if column_limit is not None or is_listed(limit):
         return _by_own_limits(asked, limit, column_limit, bids)
     return matched(asked, _limit_of(asked.costs, limit), bids)
 
 
-def asked_to_match(costs, rows, columns, shape, maximize):
+def asked_to_match(costs, rows, columns, shape, maximize, missing):
     """What is asked with a table, or with a list of costs and its rows and columns."""
-    listed = rows is not None or columns is not None
-    return Asked(rows, columns, costs, shape, maximize) if listed else Asked(costs, shape=shape, maximize=maximize)
+    if rows is None and columns is None:
+        rows, costs = costs, None
+    return Asked(rows, columns, costs, shape, maximize, missing=missing)
 
 
 def matched(asked, limit, bids):

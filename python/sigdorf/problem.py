@@ -14,7 +14,7 @@ from .whole import NoAssignment, arcs_of
 def lists_of(rows, columns, costs, shape):
     """The Lists of a caller's own. A ValueError says what is at fault."""
     rows, columns = (whole_numbers(side, name, 0, MOST_INDEX) for side, name in ((rows, "rows"), (columns, "columns")))
-    costs = _numbers(costs)
+    costs = costs_in(costs)
     if not len(rows) == len(columns) == len(costs):
         raise ValueError("rows and columns must be as many as the costs")
     if shape is None:
@@ -30,7 +30,7 @@ class Lists:
     faults tell the entry too."""
 
     def __init__(self, rows, columns, costs, sides, names=None):
-        self._names, self._is_matrix = names or NUMBERS, names is not None
+        self.names, self._is_matrix = names or NUMBERS, names is not None
         self.rows, self.columns, self.costs, self.sides = rows, columns, costs, sides
 
     def look_at_indices(self):
@@ -42,7 +42,7 @@ class Lists:
 
     def where(self, some):
         """The Lists of some of the entries."""
-        return Lists(self.rows[some], self.columns[some], self.costs[some], self.sides, self._names if self._is_matrix else None)
+        return Lists(self.rows[some], self.columns[some], self.costs[some], self.sides, self.names if self._is_matrix else None)
 
     def fault(self, place, sentence):
         """The fault of the cost at a place: what is said of it follows its row and column."""
@@ -50,11 +50,11 @@ class Lists:
         return ValueError(f"{self._told(place)}: the cost {self.costs[place]}{entry} {sentence}")
 
     def _told(self, place):
-        return self._names.told(self.rows[place], self.columns[place])
+        return self.names.told(self.rows[place], self.columns[place])
 
     def named(self, rows, columns):
         """The names of some rows and of some columns, or None where there are no names."""
-        return self._names.of(rows, columns)
+        return self.names.of(rows, columns)
 
 
 class Problem:
@@ -145,7 +145,8 @@ def look_at_sides(sides):
         raise ValueError(LIST_FAULTS[2])
 
 
-def _numbers(costs):
+def costs_in(costs):
+    """A caller's list of costs, as an array of numbers."""
     numbers = array_of(costs, "costs", MOST_ENTRIES)
     if numbers.ndim != 1 or numbers.dtype.kind not in KINDS:
         raise ValueError("costs must be one list of numbers")

@@ -13,9 +13,9 @@ from .problem import Lists, look_at_sides
 WORDS = f"{NO_ASSIGNMENT} with these pairs and capacities"
 
 
-def asked_of(rows, columns, costs, shape, maximize, decimals, forced, forbidden, capacity):
+def asked_of(rows, columns, costs, shape, maximize, decimals, missing, forced, forbidden, capacity):
     """What is asked, with or without restrictions."""
-    asked = Asked(rows, columns, costs, shape, maximize, decimals)
+    asked = Asked(rows, columns, costs, shape, maximize, decimals, missing)
     return asked if forced is None and forbidden is None and capacity is None else Restricted(asked, forced, forbidden, capacity)
 
 

@@ -43,7 +43,7 @@ def certify(
     cost = asked.problem.costs.total(entries)
     if cost != least.exact_cost:
         raise Refused(_told(asked, cost, least))
-    claim = least._replace(rows=rows, columns=columns, entries=entries, labels=asked.labels(rows, columns))
+    claim = least._replace(rows=rows, columns=columns, entries=entries, labels=asked.labels(rows, columns), costs=asked.problem.costs.at(entries))
     asked.check(claim)
     return claim
 

@@ -39,7 +39,8 @@ def check_claim(problem, solution):
     else:
         _check_exactly(problem, solution, choice)
     _look_at_amounts(problem, solution, cost)
-    look_at_labels(problem.labels(solution.rows, solution.columns), solution)
+    _look_at_costs(problem, solution)
+    look_at_names(problem.labels(solution.rows, solution.columns), problem.lists.sides, solution)
 
 
 def look_at_kind(solution):
@@ -48,10 +49,22 @@ def look_at_kind(solution):
         raise Refused(f"a Solution is wanted, and not a {type(solution).__name__}")
 
 
-def look_at_labels(labels, solution):
-    """Refuses a solution with other labels."""
+def look_at_names(labels, sides, solution):
+    """Refuses a solution with other labels or of another shape."""
     if type(solution.labels) is not type(labels) or attempt(lambda given: given == labels, solution.labels) is not True:
         raise Refused("the labels of the solution are not those of its rows and columns")
+    if solution.shape is not None and attempt(tuple, solution.shape) != sides:
+        raise Refused("the shape of the solution is not that of the problem")
+
+
+def _look_at_costs(problem, solution):
+    """Refuses a solution with other costs of its pairs, or of the other way."""
+    if solution.costs is not None:
+        listed = attempt(lambda given: numpy.asarray(given).tolist() == problem.costs.at(solution.entries).tolist(), solution.costs)
+        if listed is not True:
+            raise Refused("the costs of the solution are not those of its entries")
+    if solution.maximize is not (problem.sign < 0):
+        raise Refused("the solution doesn't say whether the most is wanted")
 
 
 def _choice_of(problem, solution):

@@ -13,7 +13,7 @@ from .faults import Unsettled
 from .library import USUAL_BIDS
 from .limits import in_one_type, is_listed, limits_of, with_all_outlets, with_outlets
 from .problem import Problem
-from .shown import equal, hashed, shown_list, shown_pairs, unequal
+from .shown import equal, hashed, shown_html, shown_list, shown_pairs, unequal
 
 
 class Match(typing.NamedTuple):
@@ -39,7 +39,7 @@ class Match(typing.NamedTuple):
     def __repr__(self):
         return f"Match(pairs={shown_pairs(self)}, free_rows={shown_list(self.free_rows)}, free_columns={shown_list(self.free_columns)})"
 
-    __eq__, __ne__, __hash__ = equal, unequal, hashed
+    __eq__, __ne__, __hash__, _repr_html_ = equal, unequal, hashed, shown_html
 
 
 def match(

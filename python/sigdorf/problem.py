@@ -127,14 +127,18 @@ class Problem:
         shown = self.costs.shown(cost)
         told = self.costs.shown_bound(cost - self.sign * answer.gap) if answer.gap else shown
         prices, scale = priced(self.persons, self.objects, answer)
-        return Solution(*self._pairs(answer.choice), shown, told, prices, scale * self.decimal_scale, cost, answer.gap or 0)
+        rows, columns, entries = self._pairs(answer.choice)
+        costs, sides = self.costs.at(entries), self.lists.sides
+        scale *= self.decimal_scale
+        return Solution(rows, columns, entries, shown, told, prices, scale, cost, answer.gap or 0, None, costs, sides, self.sign < 0)
 
     def solution_of_units(self, found):
         """The Solution in the caller's decimals of one in whole units."""
         cost, gap = self.costs.amount(int(found.exact_cost)), abs(self.costs.amount(found.gap))
         shown = self.costs.shown(cost)
         told = self.costs.shown_bound(cost - self.sign * gap) if gap else shown
-        return found._replace(cost=shown, bound=told, scale=found.scale * self.decimal_scale, exact_cost=cost, gap=gap or 0)
+        costs, scale = self.costs.at(found.entries), found.scale * self.decimal_scale
+        return found._replace(cost=shown, bound=told, scale=scale, exact_cost=cost, gap=gap or 0, costs=costs, maximize=self.sign < 0)
 
 
 def look_at_sides(sides):

@@ -3,7 +3,7 @@ import numpy
 
 from .arguments import INT64, MOST_ENTRIES, MOST_INDEX, attempt, number, whole_numbers
 from .asked import NO_ASSIGNMENT, Asked
-from .claims import NO_ENTRY, check_claim, listed_of, look_at_kind, look_at_labels, whole_list
+from .claims import NO_ENTRY, listed_of, look_at_kind, look_at_names, whole_list
 from .exact import narrow
 from .faults import Infeasible, Refused
 from .library import LIST_FAULTS, OTHER_SIZE, START_FAULTS
@@ -90,7 +90,8 @@ class Restricted:
         if not self._by_columns and prices.size:
             # The last place of a column has the price of all that aren't forced.
             prices = numpy.where(self._capacity > 0, prices[self._first + self._capacity - 1], 0)
-        return found._replace(columns=columns, entries=entries, prices=prices, labels=self._asked.labels(found.rows, columns))
+        labels = self._asked.labels(found.rows, columns)
+        return found._replace(columns=columns, entries=entries, prices=prices, labels=labels, shape=self._asked.sides)
 
     def check(self, solution):
         """Raises Refused where a Solution in the caller's entries isn't least."""
@@ -108,12 +109,12 @@ class Restricted:
         if (places + ranks >= ends).any():
             place = (places + ranks >= ends).argmax()
             raise Refused(f"{self._asked.names.told(rows[place], columns[place])} isn't allowed by the forced and forbidden pairs and capacities")
-        look_at_labels(self._asked.labels(rows, columns), solution)
-        places += ranks
-        prices = solution.prices
+        look_at_names(self._asked.labels(rows, columns), self._asked.sides, solution)
+        places, prices = places + ranks, solution.prices
         if not self._by_columns:
             prices = narrow(numpy.repeat(whole_list(prices, len(self._capacity)), self._capacity))
-        check_claim(self._inner.problem, solution._replace(columns=self._inner.lists.columns[places], entries=places, prices=prices, labels=None))
+        columns = self._inner.lists.columns[places]
+        self._inner.check(solution._replace(columns=columns, entries=places, prices=prices, labels=None, shape=self.sides))
 
 
 def _capacity_of(capacity, sides):

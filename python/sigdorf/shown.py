@@ -1,8 +1,10 @@
 """How results are shown and compared: shortly, and part by part."""
+import html
+
 import numpy
 
-# So many pairs, rows or columns are shown.
-MOST_SHOWN = 6
+# So many pairs, rows or columns are shown in a line, and so many pairs in a table.
+MOST_SHOWN, MOST_LINES = 6, 20
 
 
 def shown_pairs(found):
@@ -10,6 +12,17 @@ def shown_pairs(found):
     pairs = found.labels or list(zip(found.rows.tolist(), found.columns.tolist()))
     more = [f"and {len(pairs) - MOST_SHOWN:,} more"] if len(pairs) > MOST_SHOWN else []
     return "{" + ", ".join([f"{row!r}: {column!r}" for row, column in pairs[:MOST_SHOWN]] + more) + "}"
+
+
+def shown_html(found):
+    """The first pairs of a result with their costs, as notebooks show it."""
+    pairs = found.labels or list(zip(found.rows.tolist(), found.columns.tolist()))
+    costs = [""] * len(pairs) if found.costs is None else found.costs.tolist()
+    lines = [(*pair, cost) for pair, cost in zip(pairs[:MOST_LINES], costs)]
+    lines += [("...", f"{len(pairs) - MOST_LINES:,} more", "")] if len(pairs) > MOST_LINES else []
+    cells = "".join(f"<tr>{''.join(f'<td>{html.escape(str(cell))}</td>' for cell in line)}</tr>" for line in lines)
+    head = html.escape(repr(found).partition("pairs=")[0].replace("(", " ").rstrip(" ,"))
+    return f"<table><caption>{head}</caption><tr><th>row</th><th>column</th><th>cost</th></tr>{cells}</table>"
 
 
 def shown_list(numbers):

@@ -4,8 +4,10 @@ import fractions
 import typing
 
 import numpy
+from numpy.typing import ArrayLike
 
-from .shown import equal, hashed, shown_pairs, unequal
+from .duals import duals_of, margins_of, reduced_costs_of
+from .shown import equal, hashed, shown_html, shown_pairs, unequal
 from .whole import whole_prices
 
 
@@ -41,11 +43,18 @@ class Solution(typing.NamedTuple):
     labels: list[tuple] | None = None
     """The names of each pair's row and column, where the problem was a table that has names, such as a DataFrame; `dict(labels)` gives each its own."""
 
+    costs: numpy.ndarray | None = None
+    """The cost of each pair, as the caller gave it, or a Decimal where `decimals` was told and isn't 0."""
+    shape: tuple[int, int] | None = None
+    """The numbers of rows and of columns."""
+    maximize: bool = False
+    """Whether the most was wanted."""
+
     def __repr__(self):
         bound = "" if self.is_optimal else f"bound={self.bound!r}, "
         return f"Solution(cost={self.cost!r}, {bound}pairs={shown_pairs(self)})"
 
-    __eq__, __ne__, __hash__ = equal, unequal, hashed
+    __eq__, __ne__, __hash__, _repr_html_ = equal, unequal, hashed, shown_html
 
     @property
     def is_optimal(self) -> bool:
@@ -62,3 +71,44 @@ class Solution(typing.NamedTuple):
             return [fractions.Fraction(0)] * len(whole)
         picked = self.rows if numpy.max(self.columns) < persons < len(whole) else self.columns
         return [fractions.Fraction(int(price) * (persons + 1), self.scale) for price in whole_prices(persons, whole, picked)]
+
+    @property
+    def u(self) -> numpy.ndarray:
+        """The dual of each row, in the unit of the costs: an object array of Fractions; `u.astype(float)` has floats.
+
+        No allowed cost of a row and a column is below the sum of their duals (or above it, where the most is wanted), and those of the pairs are
+        this sum. What the smaller side leaves free has the dual 0. So the duals show the cost least: each column's counts as often as it may be
+        taken. Raises Unsettled where a limit ended the search.
+
+        >>> solution = sigdorf.solve([[1, 2.5], [1, 4]])
+        >>> print(solution.u[0] + solution.v[1], solution.u[1] + solution.v[0], sum(solution.u) + sum(solution.v))
+        5/2 1 7/2
+        """
+        return duals_of(self)[0]
+
+    @property
+    def v(self) -> numpy.ndarray:
+        """The dual of each column, as `u` has those of rows."""
+        return duals_of(self)[1]
+
+    def reduced_costs(self, rows: ArrayLike, columns: ArrayLike, costs: ArrayLike) -> numpy.ndarray:
+        """The cost of each of these pairs less the duals of its row and column, exactly: an object array of Fractions.
+
+        It is how far the cost of a pair that isn't the solution's may fall (or rise, where the most is wanted and it is negative), alone, while
+        this solution stays best.
+
+        >>> print(*sigdorf.solve([[1, 2.5], [1, 4]]).reduced_costs([0, 0, 1, 1], [0, 1, 0, 1], [1, 2.5, 1, 4]))
+        0 0 0 3/2
+        """
+        return reduced_costs_of(self, rows, columns, costs)
+
+    def margins(self, rows: ArrayLike, columns: ArrayLike, costs: ArrayLike) -> numpy.ndarray:
+        """How far the cost of each pair of the solution may rise (or fall, where the most is wanted), alone, while this solution stays best.
+
+        The arguments are all entries of the problem. It is what the duals show, and may be more in truth: Fractions, or infinity where the pair is
+        the only entry of its row and column.
+
+        >>> print(*sigdorf.solve([[1, 9], [9, 1]]).margins([0, 0, 1, 1], [0, 1, 0, 1], [1, 9, 9, 1]))
+        8 8
+        """
+        return margins_of(self, rows, columns, costs)

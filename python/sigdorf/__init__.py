@@ -6,7 +6,7 @@
     min_weight_full_bipartite_matching(matrix)      as SciPy's call of this name
     match(costs, limit)                             the best pairs of at most a limit; whoever has none stays free
     max_cardinality_match(costs)                    as many pairs as possible, and of all such choices the cheapest
-    lapjv(cost, cost_limit=limit)                   the same as the package `lap` has it
+    lapjv(cost, cost_limit=limit)                   the same as the package `lap` has it; also lapjvx, lapjvxa, lapjvc and lapmod
     solve_many(problems, threads)                   solves many problems, over threads
     certify(rows, columns, table)                   anybody's assignment, with prices that show it to be the least, or how far it is off
     Edges(rows, columns, costs)                     pairs by names, as a long table or a graph of networkx has them, in place of a table
@@ -30,7 +30,7 @@ from .certified import certify
 from .edges import Edges
 from .faults import Infeasible, Mistyped, Refused, Unsettled
 from .gated import Match, match
-from .lap_calls import lapjv
+from .lap_calls import lapjv, lapjvc, lapjvx, lapjvxa, lapmod
 from .library import USUAL_BIDS
 from .many import solve_many
 from .scipy_calls import linear_sum_assignment, min_weight_full_bipartite_matching
@@ -51,6 +51,10 @@ __all__ = [
     "check",
     "k_best",
     "lapjv",
+    "lapjvc",
+    "lapjvx",
+    "lapjvxa",
+    "lapmod",
     "linear_sum_assignment",
     "match",
     "max_cardinality_match",

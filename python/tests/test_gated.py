@@ -169,6 +169,40 @@ class Lap(Limited):
             sigdorf.lapjv([3, 1, 2])
         self.assertEqual([len(side) for side in sigdorf.lapjv(numpy.zeros((0, 2)), True, 1.0)[1:]], [0, 2])
 
+    def test_other_answers(self):
+        random = numpy.random.default_rng(5)
+        for number in range(40):
+            cost, limit = random.random(random.integers(1, 7, 2)), [math.inf, 0.5][number % 2]
+            total, of_row, of_column = sigdorf.lapjv(cost, True, limit)
+            rows = numpy.flatnonzero(of_row >= 0)
+            for answer in (sigdorf.lapjvx(cost, True, limit), (sigdorf.lapjvx if number % 2 else sigdorf.lapjvc)(cost, **({"extend_cost": True, "cost_limit": limit} if number % 2 else {}))):
+                self.assertEqual([answer[0], *(side.tolist() for side in answer[1:])], [total, rows.tolist(), of_row[rows].tolist()])
+            self.assertEqual(sigdorf.lapjvxa(cost, True, limit)[1].tolist(), [[row, of_row[row]] for row in rows])
+            self.assertEqual(sigdorf.lapjvxa(cost, True, limit, False).shape, (len(rows), 2))
+            self.assertEqual(len(sigdorf.lapjvx(cost, True, limit, False)), 2)
+        with self.assertRaisesRegex(ValueError, "Square cost array expected"):
+            sigdorf.lapjvx([[3, 1, 2]])
+
+    def test_lapmod(self):
+        random = numpy.random.default_rng(6)
+        for _ in range(40):
+            n = int(random.integers(1, 7))
+            cost = numpy.where((random.random((n, n)) < 0.5) | numpy.eye(n, dtype=bool), random.random((n, n)), math.inf)
+            is_entry = numpy.isfinite(cost)
+            given = cost[is_entry], numpy.append(0, numpy.cumsum(is_entry.sum(axis=1))), numpy.nonzero(is_entry)[1]
+            wanted = sigdorf.lapjv(cost)
+            for found in (sigdorf.lapmod(n, *given), sigdorf.lapmod(n, *(part.tolist() for part in given), fast=False)):
+                self.assertEqual([found[0], *(side.tolist() for side in found[1:])], [wanted[0], *(side.tolist() for side in wanted[1:])])
+            self.assertEqual(len(sigdorf.lapmod(n, *given, True, False)), 2)
+        for given in ((2, [1, 2], [0, 1], [0, 1]), (2, [1, 2], [0, 2, 1], [0, 1]), (2, [1, 2], [1, 1, 2], [0, 1]), (2, [1], [0, 1, 2], [0, 1]), (2, 5, [0, 1, 2], [0, 1])):
+            with self.subTest(given=given), self.assertRaisesRegex(ValueError, "ii must be n \\+ 1 places in cc"):
+                sigdorf.lapmod(*given)
+        for given in ((1.5, [1], [0, 1], [0]), (1, [1], [0, 1], [1]), (1, ["1"], [0, 1], [0]), (1, [1], [0, 1], [0, 0])):
+            with self.subTest(given=given), self.assertRaises(ValueError):
+                sigdorf.lapmod(*given)
+        with self.assertRaises(sigdorf.Infeasible):
+            sigdorf.lapmod(2, [1, 2], [0, 1, 2], [0, 0])
+
     def test_as_a_doubled_table(self):
         """The package lap puts half the limit beside the table for whoever stays free, and nothing where free meets free."""
         random = numpy.random.default_rng(2)

@@ -8,6 +8,7 @@
     max_cardinality_match(costs)                    as many pairs as possible, and of all such choices the cheapest
     lapjv(cost, cost_limit=limit)                   the same as the package `lap` has it; also lapjvx, lapjvxa, lapjvc and lapmod
     solve_many(problems, threads)                   solves many problems, over threads
+    Solver().solve(..)                              solves problems one after another, each from the duals of the one before
     certify(rows, columns, table)                   anybody's assignment, with prices that show it to be the least, or how far it is off
     Edges(rows, columns, costs)                     pairs by names, as a long table or a graph of networkx has them, in place of a table
     k_best(table, k)                                the k best assignments, the best first
@@ -35,6 +36,7 @@ from .library import USUAL_BIDS
 from .many import solve_many
 from .scipy_calls import linear_sum_assignment, min_weight_full_bipartite_matching
 from .solution import Solution
+from .solver import Solver
 
 __version__ = "1.1"
 __all__ = [
@@ -45,6 +47,7 @@ __all__ = [
     "Ranked",
     "Refused",
     "Solution",
+    "Solver",
     "USUAL_BIDS",
     "Unsettled",
     "certify",

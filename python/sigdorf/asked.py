@@ -1,4 +1,6 @@
 """What a caller asks for, made plain, and the one road to an answer."""
+import numpy
+
 from . import fast
 from .arguments import HIGHEST_START, INT64, MOST_BIDS, number, truth, whole_numbers
 from .claims import check_claim
@@ -8,6 +10,7 @@ from .faults import Unsettled
 from .library import START_FAULTS, USUAL_BIDS
 from .matrices import is_sparse, lists_of_matrix, numbers_of, without_missing
 from .problem import Problem, lists_of
+from .starts import finer_by, in_whole_units, kept_of, made_smaller
 from .tables import NUMBERS, named
 
 NO_ASSIGNMENT = "no full assignment exists"
@@ -95,9 +98,12 @@ class Asked:
         return named and list(zip(*named))
 
     def start_of(self, start):
-        """The prices of a start, or None. What the library takes for none, an empty list, is a fault."""
+        """The prices of a start, or None: whole numbers, or floats in the unit of the costs. What the library takes for none, an empty list, is a fault."""
         if start is None:
             return None
+        kept = kept_of(start)
+        if kept is not None:
+            return kept.prices(self.sides[0] > self.sides[1], max(self.sides), self.names, self.maximize)
         start = whole_numbers(start, "start", *INT64)
         if len(start) != max(self.sides):
             raise ValueError(START_FAULTS[2])
@@ -108,14 +114,27 @@ class Asked:
 
     def solution(self, start, bids, words=NO_ASSIGNMENT):
         """The Solution. These words begin an Infeasible."""
-        # Decimals are turned already.
-        found = fast.solution_of(self.plain(), self.maximize and self.decimals is None, start, bids)
+        found = self._by_extension(start, bids)
         if found is None:
             found = self.problem.solution(start, bids, words)
         elif self.decimals is not None:
             found = self.problem.solution_of_units(found)
         labels = self.labels(found.rows, found.columns)
         return found if labels is None else found._replace(labels=labels)
+
+    def _by_extension(self, start, bids):
+        """The Solution, of decimals in whole units, or None."""
+        # Decimals are turned already.
+        maximize = self.maximize and self.decimals is None
+        if start is None or start.dtype.kind != "f":
+            return fast.solution_of(self.plain(), maximize, start, bids)
+        costs = fast.plain(self.costs) if self.decimals is None else self.problem.costs.whole
+        finer = finer_by(costs) if costs.dtype.kind == "f" else 0
+        start = in_whole_units(start, (min(self.sides) + 1) * (1 if self.decimals is None else self.problem.decimal_scale), finer)
+        if not finer:
+            return fast.solution_of(self.plain(), maximize, start, bids)
+        found = fast.solution_of(self.plain(numpy.ldexp(costs, finer)), maximize, start, bids)
+        return found and made_smaller(found, finer, costs[found.entries] if self.table is None else costs[found.rows, found.columns])
 
     def check(self, solution):
         """Raises Refused where a Solution isn't least."""

@@ -27,7 +27,7 @@ def solve(
     forced: Pairs | None = None,
     forbidden: Pairs | None = None,
     capacity: int | ArrayLike | None = None,
-    start: ArrayLike | None = None,
+    start: Solution | ArrayLike | None = None,
     bids: int = USUAL_BIDS,
     seconds: float | None = None,
     progress: typing.Callable[[typing.Any, typing.Any], typing.Any] | None = None,
@@ -54,8 +54,9 @@ def solve(
         forbidden one. A forced pair is an entry.
     capacity: how many rows a column may take, a whole number or a list with one of each column. Each row gets a column then, and a column stands in
         the solution as often as it is taken.
-    start: the prices of an earlier solution of as many rows and columns, from which a run may be shorter, on the scale of whole costs times
-        the smaller side + 1 (of decimals, 10^decimals times that). They may be wrong: any from 0 to 2^60.
+    start: an earlier Solution of a problem like this one, from whose duals a run may be shorter: of any costs, also floats. Where it is of no use,
+        as of another number of columns, it is dropped. Or prices from 0 to 2^60, on the scale of whole costs times the smaller side + 1 (of
+        decimals, 10^decimals times that); they may be wrong. :class:`Solver` does this for problems that follow one another.
     bids: how many bids a phase may take, from 0 to 2^64 - 1.
     seconds: a limit of time, from 0. Behind it comes what was found by then: no fault, but a solution whose `is_optimal` is False. The search is
         made in slices, each from the beginning again with more bids than the one before. The first answer takes as long as it takes to read

@@ -7,6 +7,7 @@ from .exact import Answer, priced, solve_costs
 from .faults import Infeasible
 from .library import LIST_FAULTS
 from .solution import Solution
+from .starts import in_whole_units
 from .tables import NUMBERS
 from .whole import NoAssignment, arcs_of
 
@@ -90,7 +91,7 @@ class Problem:
         return 10**self.costs.decimals if isinstance(self.costs, DecimalCosts) else 1
 
     def answered(self, start, bids, words):
-        """The :class:`~.exact.Answer` of the solver, from prices in units of whole costs, or from None. Raises Infeasible, with these words."""
+        """The :class:`~.exact.Answer` of the solver, from prices in units of whole costs, floats in that of the costs, or None. Raises Infeasible, with these words."""
         if self.persons == 0:
             return Answer(numpy.zeros(0, numpy.int64), [(numpy.zeros(self.objects, numpy.int64), 0)], 1, 0)
         try:
@@ -104,6 +105,8 @@ class Problem:
         """Prices in units of the costs. What the library takes for none is an empty list."""
         if start is None:
             return numpy.zeros(0, numpy.int64)
+        if start.dtype.kind == "f":
+            return in_whole_units(start, (self.persons + 1) * self.decimal_scale, self.costs.unit)
         finer, coarser = min(max(self.costs.unit, 0), 60), min(max(-self.costs.unit, 0), 62)
         return numpy.minimum(start, HIGHEST_START >> finer) << finer >> coarser
 

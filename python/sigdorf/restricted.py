@@ -9,6 +9,7 @@ from .faults import Infeasible, Refused
 from .library import LIST_FAULTS, OTHER_SIZE, START_FAULTS
 from .pairs import Pairs, ranks_of
 from .problem import Lists, look_at_sides
+from .starts import kept_of
 
 WORDS = f"{NO_ASSIGNMENT} with these pairs and capacities"
 
@@ -73,6 +74,10 @@ class Restricted:
         """The prices of a start, or None."""
         if start is None or self._by_columns:
             return self._inner.start_of(start)
+        kept = kept_of(start)
+        if kept is not None:
+            prices = kept.prices(False, len(self._capacity), self._asked.names, self.maximize)
+            return prices if prices is None else numpy.repeat(prices, self._capacity)
         start = whole_numbers(start, "start", *INT64)
         if len(start) != len(self._capacity):
             raise ValueError(START_FAULTS[2])

@@ -6,11 +6,11 @@
     min_weight_full_bipartite_matching(matrix)      as SciPy's call of this name
     match(costs, limit)                             the best pairs of at most a limit; whoever has none stays free
     max_cardinality_match(costs)                    as many pairs as possible, and of all such choices the cheapest
-    lapjv(cost, cost_limit=limit)                   the same as the package `lap` has it; also lapjvx, lapjvxa, lapjvc and lapmod
+    lapjv(cost, cost_limit=limit)                   the same as `lap` has it; also lapjvx, lapjvxa, lapjvc and lapmod
     solve_many(problems, threads)                   solves many problems, over threads
-    Solver().solve(..)                              solves problems one after another, each from the duals of the one before
+    Solver().solve(..)                              problems one after another, each from the duals of the one before
     certify(rows, columns, table)                   anybody's assignment, with prices that show it to be the least, or how far it is off
-    Edges(rows, columns, costs)                     pairs by names, as a long table or a graph of networkx has them, in place of a table
+    Edges(rows, columns, costs)                     pairs by names, of a long table or a graph, in place of a table
     k_best(table, k)                                the k best assignments, the best first
 
 Costs count exactly as they stand, floats too (docs/EXACT.md). Where there is no full assignment, each raises Infeasible, which names the rows

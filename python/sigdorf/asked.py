@@ -98,7 +98,10 @@ class Asked:
         return named and list(zip(*named))
 
     def start_of(self, start):
-        """The prices of a start, or None: whole numbers, or floats in the unit of the costs. What the library takes for none, an empty list, is a fault."""
+        """The prices of a start, or None: whole numbers, or floats in the unit of the costs.
+
+        What the library takes for none, an empty list, is a fault.
+        """
         if start is None:
             return None
         kept = kept_of(start)
@@ -128,13 +131,14 @@ class Asked:
         maximize = self.maximize and self.decimals is None
         if start is None or start.dtype.kind != "f":
             return fast.solution_of(self.plain(), maximize, start, bids)
-        costs = fast.plain(self.costs) if self.decimals is None else self.problem.costs.whole
-        finer = finer_by(costs) if costs.dtype.kind == "f" else 0
-        start = in_whole_units(start, (min(self.sides) + 1) * (1 if self.decimals is None else self.problem.decimal_scale), finer)
+        factor = (min(self.sides) + 1) * (1 if self.decimals is None else self.problem.decimal_scale)
+        costs = fast.plain(self.costs)
+        finer = finer_by(costs) if self.decimals is None and costs.dtype.kind == "f" else 0
+        start = in_whole_units(start, factor, finer)
         if not finer:
             return fast.solution_of(self.plain(), maximize, start, bids)
         found = fast.solution_of(self.plain(numpy.ldexp(costs, finer)), maximize, start, bids)
-        return found and made_smaller(found, finer, costs[found.entries] if self.table is None else costs[found.rows, found.columns])
+        return found and made_smaller(found, finer)
 
     def check(self, solution):
         """Raises Refused where a Solution isn't least."""

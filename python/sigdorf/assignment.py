@@ -34,41 +34,47 @@ def solve(
 ) -> Solution:
     """An assignment and a bound: of least cost where `is_optimal` says so, and else the best that the bids or the time sufficed for.
 
-    Look at `is_optimal` of the :class:`Solution`: where it is False, a limit ended the search, and another assignment may cost less, down to
-    `bound`. Where it is True, the prices of the solution show that none does.
+    Look at `is_optimal` of the :class:`Solution`: where it is False, a limit ended the search, and another assignment
+    may cost less, down to `bound`. Where it is True, the prices of the solution show that none does.
 
-    Entry k says that row rows[k] may have column columns[k] at costs[k]. Each row gets a column, or where there are more rows than columns
-    each column a row, none twice. The search of a first assignment takes O(rows * entries) time at most, mostly far less. The solver is the
-    direct one, as the program's with --direct; the numbers of rows and columns may be unequal.
+    Entry k says that row rows[k] may have column columns[k] at costs[k]. Each row gets a column, or where there are
+    more rows than columns each column a row, none twice. The search of a first assignment takes O(rows * entries) time
+    at most, mostly far less. The solver is the direct one, as the program's with --direct; the numbers of rows and
+    columns may be unequal.
 
     rows, columns: int arrays of one length, from 0; a pair may stand twice.
-    costs: int or float array of the same length, of at most 64 bits a number. Each counts exactly as it stands: no assignment has a smaller
-        sum, of all digits that these numbers have. Costs that are no whole numbers to 10^9 take a few searches in place of one.
-    shape: numbers of rows and of columns; where it is left out, one more than the greatest of each. 10,000 on the smaller side, 20,000 on the
-        larger one, 33,554,432 entries.
+    costs: int or float array of the same length, of at most 64 bits a number. Each counts exactly as it stands: no
+        assignment has a smaller sum, of all digits that these numbers have. Costs that are no whole numbers to 10^9
+        take a few searches in place of one.
+    shape: numbers of rows and of columns; where it is left out, one more than the greatest of each. 10,000 on the
+        smaller side, 20,000 on the larger one, 33,554,432 entries.
     maximize: whether the most is wanted.
-    decimals: 0 to 9, for floats that stand for decimal numbers: what counts is costs * 10^decimals, which must be whole numbers to 10^9 in
-        magnitude, and a float must be the one nearest to such a number, of its own type.
-    missing: "forbidden" makes no entries of a table's cells that are NaN, or missing; where it is left out, such cells are a fault.
-    forced, forbidden: lists of pairs (row, column), by numbers, or by names where the table has them: the assignment has each forced pair, and no
-        forbidden one. A forced pair is an entry.
-    capacity: how many rows a column may take, a whole number or a list with one of each column. Each row gets a column then, and a column stands in
-        the solution as often as it is taken.
-    start: an earlier Solution of a problem like this one, from whose duals a run may be shorter: of any costs, also floats. Where it is of no use,
-        as of another number of columns, it is dropped. Or prices from 0 to 2^60, on the scale of whole costs times the smaller side + 1 (of
-        decimals, 10^decimals times that); they may be wrong. :class:`Solver` does this for problems that follow one another.
+    decimals: 0 to 9, for floats that stand for decimal numbers: what counts is costs * 10^decimals, which must be whole
+        numbers to 10^9 in magnitude, and a float must be the one nearest to such a number, of its own type.
+    missing: "forbidden" makes no entries of a table's cells that are NaN, or missing; where it is left out, such cells
+        are a fault.
+    forced, forbidden: lists of pairs (row, column), by numbers, or by names where the table has them: the assignment
+        has each forced pair, and no forbidden one. A forced pair is an entry.
+    capacity: how many rows a column may take, a whole number or a list with one of each column. Each row gets a column
+        then, and a column stands in the solution as often as it is taken.
+    start: an earlier Solution of a problem like this one, from whose duals a run may be shorter: of any costs, also
+        floats. Where it is of no use, as of another number of columns, it is dropped. Or prices from 0 to 2^60, on the
+        scale of whole costs times the smaller side + 1 (of decimals, 10^decimals times that); they may be wrong.
+        :class:`Solver` does this for problems that follow one another.
     bids: how many bids a phase may take, from 0 to 2^64 - 1.
-    seconds: a limit of time, from 0. Behind it comes what was found by then: no fault, but a solution whose `is_optimal` is False. The search is
-        made in slices, each from the beginning again with more bids than the one before. The first answer takes as long as it takes to read
-        the entries and to find any assignment, whatever the limit. docs/PYTHON.md says how late it may be.
+    seconds: a limit of time, from 0. Behind it comes what was found by then: no fault, but a solution whose
+        `is_optimal` is False. The search is made in slices, each from the beginning again with more bids than the one
+        before. The first answer takes as long as it takes to read the entries and to find any assignment, whatever the
+        limit. docs/PYTHON.md says how late it may be.
     progress: is called after each slice with the bound and the cost of the best so far, as the solution will have them.
 
-    In place of the lists there may be one table: a matrix, dense (what is infinite is no entry) or sparse (what isn't stored is none), or a
-    table with `index`, `columns` and `to_numpy`, such as pandas' DataFrame, or :class:`Edges`, whose names are in the solution's `labels` and in
-    every fault.
+    In place of the lists there may be one table: a matrix, dense (what is infinite is no entry) or sparse (what isn't
+    stored is none), or a table with `index`, `columns` and `to_numpy`, such as pandas' DataFrame, or :class:`Edges`,
+    whose names are in the solution's `labels` and in every fault.
 
-    Raises Infeasible where there is no full assignment, ValueError where an argument is at fault (a masked array among them), and MemoryError.
-    KeyboardInterrupt gets away from a long call at once; the search itself runs on to its end in a thread of its own, unseen.
+    Raises Infeasible where there is no full assignment, ValueError where an argument is at fault (a masked array among
+    them), and MemoryError. KeyboardInterrupt gets away from a long call at once; the search itself runs on to its end
+    in a thread of its own, unseen.
 
     >>> solution = sigdorf.solve([0, 0, 1, 1], [0, 1, 0, 1], [1, 2.5, 1, 4])
     >>> solution.rows.tolist(), solution.columns.tolist(), solution.cost
@@ -101,9 +107,10 @@ def check(
 ) -> None:
     """Raises :class:`Refused` where a solution isn't an assignment of this problem than which none costs less, as its prices show.
 
-    The other arguments are those of :func:`solve`, and a ValueError says which one is at fault. Whoever found the solution is not trusted: type,
-    length and range of each of its parts are looked at, and each number exactly; nothing of the solver is used. What a limit has ended
-    (`is_optimal` is False) is refused. O(entries) time. An assignment without prices is what :func:`certify` takes.
+    The other arguments are those of :func:`solve`, and a ValueError says which one is at fault. Whoever found the
+    solution is not trusted: type, length and range of each of its parts are looked at, and each number exactly; nothing
+    of the solver is used. What a limit has ended (`is_optimal` is False) is refused. O(entries) time. An assignment
+    without prices is what :func:`certify` takes.
 
     >>> table = [[1, 2], [1, 4]]
     >>> sigdorf.check(sigdorf.solve(table), table)

@@ -24,9 +24,12 @@ def max_cardinality_match(
     missing: typing.Literal["forbidden"] | None = None,
     bids: int = USUAL_BIDS,
 ) -> Match:
-    """As many pairs as possible, and of all choices of so many pairs the one of least cost: for tables where not every row can have a column.
+    """As many pairs as possible, and of all choices of so many pairs the one of least cost.
 
-    The arguments are those of :func:`match`, which has a limit besides. The sum is exact, of floats too. Great costs are refused, where sums of
+    It is for tables where not every row can have a column.
+
+    The arguments are those of :func:`match`, which has a limit besides. The sum is exact, of floats too. Great costs
+    are refused, where sums of
     as many as there may be pairs could be beyond their type: whole numbers near 2^63, and floats near 1e308.
 
     Raises ValueError where an argument is at fault, and Unsettled where a limit of the search ended it.
@@ -41,7 +44,7 @@ def max_cardinality_match(
 
 
 def _beyond(costs, pairs):
-    """A limit by which one pair more is worth any change of the others: above 2 * pairs times the greatest magnitude."""
+    """A limit by which one pair more is worth any change of others: above 2 * pairs times the greatest magnitude."""
     finite = costs[numpy.isfinite(costs)] if costs.dtype.kind == "f" else costs
     most = max(-finite.min().item(), finite.max().item()) if finite.size else 0
     exponent = (2 * pairs).bit_length() + (math.frexp(most)[1] if costs.dtype.kind == "f" else most.bit_length())

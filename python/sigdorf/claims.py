@@ -60,8 +60,8 @@ def look_at_names(labels, sides, solution):
 def _look_at_costs(problem, solution):
     """Refuses a solution with other costs of its pairs, or of the other way."""
     if solution.costs is not None:
-        listed = attempt(lambda given: numpy.asarray(given).tolist() == problem.costs.at(solution.entries).tolist(), solution.costs)
-        if listed is not True:
+        wanted = problem.costs.at(solution.entries).tolist()
+        if attempt(lambda given: numpy.asarray(given).tolist() == wanted, solution.costs) is not True:
             raise Refused("the costs of the solution are not those of its entries")
     if solution.maximize is not (problem.sign < 0):
         raise Refused("the solution doesn't say whether the most is wanted")

@@ -9,7 +9,7 @@ from .faults import Unsettled
 
 
 def duals_of(solution):
-    """The duals of all rows and of all columns: object arrays of Fractions. Raises Unsettled where a limit ended the search."""
+    """The duals of all rows and of all columns, Fractions in object arrays. Raises Unsettled of what a limit has ended."""
     if solution.costs is None or solution.shape is None:
         raise ValueError("the solution has no costs of its pairs, or no shape")
     if not solution.is_optimal:
@@ -31,7 +31,10 @@ def has_row_prices(solution):
 def reduced_costs_of(solution, rows, columns, costs):
     """The costs of these pairs less the duals of their rows and columns."""
     u, v = duals_of(solution)
-    rows, columns = (whole_numbers(side, name, 0, count - 1) for side, name, count in zip((rows, columns), ("rows", "columns"), solution.shape))
+    rows, columns = (
+        whole_numbers(side, name, 0, count - 1)
+        for side, name, count in zip((rows, columns), ("rows", "columns"), solution.shape)
+    )
     exact = attempt(lambda given: _exactly(numpy.asarray(given).tolist()), costs)
     if exact is None or not len(rows) == len(columns) == len(exact):
         raise ValueError("costs must be finite numbers, as many as rows and columns")
@@ -39,7 +42,10 @@ def reduced_costs_of(solution, rows, columns, costs):
 
 
 def margins_of(solution, rows, columns, costs):
-    """By how much the cost of each pair may change for the worse, alone, while duals show the solution best. `costs` are those of all entries."""
+    """By how much the cost of each pair may change for the worse, alone, while duals show the solution best.
+
+    Rows, columns and costs are those of all entries.
+    """
     slack = abs(reduced_costs_of(solution, rows, columns, costs))
     rows, columns = numpy.asarray(rows), numpy.asarray(columns)
     is_other = ~numpy.isin(rows * solution.shape[1] + columns, solution.rows * solution.shape[1] + solution.columns)

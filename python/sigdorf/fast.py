@@ -95,7 +95,8 @@ def _made(problem, maximize, parts):
     """The Solution of what the extension has found."""
     pairs, prices, unit, total, total_unit, shown, gap, gap_unit = parts
     rows, columns, places = pairs
-    costs, sides = (problem[2][places], problem[3:]) if type(problem) is tuple else (problem[rows, columns], problem.shape)
+    is_list = type(problem) is tuple
+    costs, sides = (problem[2][places], problem[3:]) if is_list else (problem[rows, columns], problem.shape)
     if total is None:
         exact = exact_sum(costs)
     else:

@@ -13,9 +13,10 @@ from .faults import Unsettled
 from .library import USUAL_BIDS
 from .limits import in_one_type, is_listed, limits_of, with_all_outlets, with_outlets
 from .problem import Problem
-from .shown import equal, hashed, shown_html, shown_list, shown_pairs, unequal
+from .shown import compared_and_shown, shown_list, shown_pairs
 
 
+@compared_and_shown
 class Match(typing.NamedTuple):
     """Pairs of rows and columns, and those that stay free. Two are equal where all parts of them are.
 
@@ -39,8 +40,6 @@ class Match(typing.NamedTuple):
     def __repr__(self):
         return f"Match(pairs={shown_pairs(self)}, free_rows={shown_list(self.free_rows)}, free_columns={shown_list(self.free_columns)})"
 
-    __eq__, __ne__, __hash__, _repr_html_ = equal, unequal, hashed, shown_html
-
 
 def match(
     costs: typing.Any,
@@ -54,16 +53,19 @@ def match(
     missing: typing.Literal["forbidden"] | None = None,
     bids: int = USUAL_BIDS,
 ) -> Match:
-    """The pairs whose costs have the least sum together with what stays free: each row that has no column costs the limit, as each pair does that isn't made.
+    """The pairs whose costs have the least sum, together with the limit of each row that stays free.
 
-    So no pair dearer than the limit is made, and one more pair is made only where the others don't pay more than it gains. A pair of just the
-    limit counts as much as none. The sum is exact, of floats too: no other pairs have a smaller one.
+    So no pair dearer than the limit is made, and one more pair is made only where the others don't pay more than it
+    gains. A pair of just the limit counts as much as none. The sum is exact, of floats too: no other pairs have a
+    smaller one.
 
-    costs: a table as :func:`solve` takes it (a matrix, dense or sparse, or a DataFrame), or with `rows` and `columns` one list. Of a matrix
-        what is infinite is no pair.
-    limit: what a row costs that stays free: a finite number, or a list with one of each row. Where costs are whole numbers beyond 2^53, it is whole.
-    column_limit: what a column costs that stays free, where that isn't nothing: a number, or a list with one of each column. Then a pair costs
-        its row's and its column's limit together at most, and rows and columns number 10,000 at most together.
+    costs: a table as :func:`solve` takes it (a matrix, dense or sparse, or a DataFrame), or with `rows` and `columns`
+        one list. Of a matrix what is infinite is no pair.
+    limit: what a row costs that stays free: a finite number, or a list with one of each row. Where costs are whole
+        numbers beyond 2^53, it is whole.
+    column_limit: what a column costs that stays free, where that isn't nothing: a number, or a list with one of each
+        column. Then a pair costs its row's and its column's limit together at most, and rows and columns number 10,000
+        at most together.
     rows, columns, shape: those of :func:`solve`. Rows and columns number 20,000 at most together.
     maximize: whether the most is wanted: then no pair of less than the limit is made.
     missing, bids: those of :func:`solve`.
@@ -128,7 +130,8 @@ def _by_lists(asked, limit, bids):
     by_columns, persons = lists.sides[0] > lists.sides[1], min(lists.sides)
     some = numpy.flatnonzero(values >= limit if asked.maximize else values <= limit)
     sides = (lists.columns, lists.rows) if by_columns else (lists.rows, lists.columns)
-    more = with_outlets(*(side[some] for side in sides), values[some], numpy.full(persons, limit, values.dtype), max(lists.sides))
+    limits = numpy.full(persons, limit, values.dtype)
+    more = with_outlets(*(side[some] for side in sides), values[some], limits, max(lists.sides))
     return _matched(asked, Problem(more, asked.maximize, None).solution(None, bids, NO_ASSIGNMENT), some)
 
 
@@ -142,13 +145,13 @@ def _by_own_limits(asked, limit, column_limit, bids):
     else:
         column_limits = limits_of(column_limit, lists.sides[1], "column_limit", "column")
         if sum(lists.sides) > MOST_PERSONS:
-            raise ValueError(f"rows and columns must number {MOST_PERSONS:,} at most together where columns have limits")
+            raise ValueError(f"rows and columns must number {MOST_PERSONS:,} at most together with limits of columns")
         more = with_all_outlets(lists, *in_one_type(lists.costs, limits, column_limits))
     return _matched(asked, Asked.of_lists(more, asked.maximize).solution(None, bids), numpy.arange(len(lists.costs)))
 
 
 def _look_at_lists(asked):
-    """A ValueError where there are too many rows and columns, or where a cost isn't finite, before some are left out."""
+    """A ValueError where there are too many rows and columns, or a cost isn't finite, before some are left out."""
     if sum(asked.sides) > MOST_OBJECTS:
         raise ValueError(f"rows and columns must number {MOST_OBJECTS:,} at most together")
     costs_of(asked.lists.costs, None, asked.maximize, asked.lists.fault)

@@ -1,4 +1,4 @@
-"""Calls with the names and answers of those of the packages `lap` and `lapx`, for programs that change an import alone."""
+"""Calls with the names and answers of the packages `lap` and `lapx`, for programs that change an import alone."""
 import math
 
 import numpy
@@ -12,7 +12,7 @@ from .scipy_calls import linear_sum_assignment
 
 
 def lapjv(cost: ArrayLike, extend_cost: bool = False, cost_limit: float = math.inf, return_cost: bool = True) -> tuple:
-    """As the call of this name of the package `lap`: the sum, the column of each row, and the row of each column, -1 for none.
+    """As the call of this name of the package `lap`: the sum, the column of each row, the row of each column, or -1.
 
     cost: a matrix; as many rows as columns, unless `extend_cost` is True. What is infinite is no pair.
     cost_limit: no pair dearer than this is made; see :func:`match`.
@@ -29,7 +29,9 @@ def lapjv(cost: ArrayLike, extend_cost: bool = False, cost_limit: float = math.i
 
 
 def lapjvx(cost: ArrayLike, extend_cost: bool = False, cost_limit: float = math.inf, return_cost: bool = True) -> tuple:
-    """As the call of this name of the package `lapx`: the sum, and the rows and columns of the pairs. The arguments are those of :func:`lapjv`.
+    """As the call of this name of the package `lapx`: the sum, and the rows and columns of the pairs.
+
+    The arguments are those of :func:`lapjv`.
 
     >>> total, rows, columns = sigdorf.lapjvx([[1.0, 9.0], [9.0, 8.0]], cost_limit=2.0)
     >>> total, rows.tolist(), columns.tolist()
@@ -39,8 +41,12 @@ def lapjvx(cost: ArrayLike, extend_cost: bool = False, cost_limit: float = math.
     return _answer(return_cost, matrix[rows, columns], rows, columns)
 
 
-def lapjvxa(cost: ArrayLike, extend_cost: bool = False, cost_limit: float = math.inf, return_cost: bool = True) -> tuple | numpy.ndarray:
-    """As the call of this name of the package `lapx`: the sum, and an array with a row of two for each pair. The arguments are those of :func:`lapjv`.
+def lapjvxa(
+    cost: ArrayLike, extend_cost: bool = False, cost_limit: float = math.inf, return_cost: bool = True
+) -> tuple | numpy.ndarray:
+    """As the call of this name of the package `lapx`: the sum, and an array with a row and a column for each pair.
+
+    The arguments are those of :func:`lapjv`.
 
     >>> total, pairs = sigdorf.lapjvxa([[1.0, 9.0], [9.0, 8.0]])
     >>> total, pairs.tolist()
@@ -60,11 +66,20 @@ def lapjvc(cost: ArrayLike, return_cost: bool = True) -> tuple:
     return lapjvx(cost, True, math.inf, return_cost)
 
 
-def lapmod(n: int, cc: ArrayLike, ii: ArrayLike, kk: ArrayLike, fast: bool = True, return_cost: bool = True, fp_version: int = 0) -> tuple:
-    """As the call of this name of the package `lap`, for sparse matrices: the sum, the column of each row, and the row of each column.
+def lapmod(
+    n: int,
+    cc: ArrayLike,
+    ii: ArrayLike,
+    kk: ArrayLike,
+    fast: bool = True,
+    return_cost: bool = True,
+    fp_version: int = 0,
+) -> tuple:
+    """As the call of this name of the package `lap`, for sparse matrices: what :func:`lapjv` answers.
 
     n: the number of rows, and of columns.
-    cc, ii, kk: the costs row by row, n + 1 places in them where rows begin, the last one where all end, and the column of each cost.
+    cc, ii, kk: the costs row by row, n + 1 places in them where rows begin, the last one where all end, and the column
+        of each cost.
     fast, fp_version: ways of lap's own method, by which no answer differs.
 
     Raises Infeasible where there is no full assignment, and ValueError where an argument is at fault.

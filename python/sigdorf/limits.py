@@ -26,9 +26,14 @@ def in_one_type(*numbers):
     with numpy.errstate(all="ignore"):
         turned = [part.astype(kind) for part in numbers]
         # Long whole numbers without a sign are negative where they are too long.
-        are_same = all(numpy.array_equal(new.astype(old.dtype), old) and ((new < 0) == (old < 0)).all() for new, old in zip(turned, numbers))
+        are_same = all(
+            numpy.array_equal(new.astype(old.dtype), old) and ((new < 0) == (old < 0)).all()
+            for new, old in zip(turned, numbers)
+        )
     if not are_same:
-        raise ValueError("costs and limits must be whole numbers below 2^63 all, or floats of 64 bits without being rounded")
+        raise ValueError(
+            "costs and limits must be whole numbers below 2^63 all, or floats of 64 bits without being rounded"
+        )
     return turned
 
 
@@ -36,12 +41,18 @@ def with_outlets(persons, objects, costs, limits, count):
     """The Lists of entries of so many objects, with an outlet of each person's own that costs his limit."""
     mine = numpy.arange(len(limits))
     return Lists(
-        numpy.concatenate([persons, mine]), numpy.concatenate([objects, count + mine]), numpy.concatenate([costs, limits]), (len(mine), count + len(mine))
+        numpy.concatenate([persons, mine]),
+        numpy.concatenate([objects, count + mine]),
+        numpy.concatenate([costs, limits]),
+        (len(mine), count + len(mine)),
     )
 
 
 def with_all_outlets(lists, costs, limits, column_limits):
-    """The Lists of entries, with an outlet of each row's own and of each column's, which are a pair for nothing where their row and column are."""
+    """The Lists of entries, with an outlet of each row's own and of each column's.
+
+    The outlets of a row and a column are a pair for nothing where these are a pair.
+    """
     row, column = map(numpy.arange, lists.sides)
     return Lists(
         numpy.concatenate([lists.rows, row, len(row) + column, len(row) + lists.columns]),

@@ -8,7 +8,7 @@ NUMBERS, BOOLEAN = set("iuf"), "b"
 
 
 def of_nullable(given, values):
-    """The values of a frame or a column as numbers, with NaN for what is missing, where its types are nullable; and else the values."""
+    """The values of a frame or a column; where its types are nullable, as numbers, with NaN for what is missing."""
     if values.dtype != object or not hasattr(given, "isna"):
         return values
     types = getattr(given, "dtypes", None)

@@ -43,7 +43,8 @@ class Lists:
 
     def where(self, some):
         """The Lists of some of the entries."""
-        return Lists(self.rows[some], self.columns[some], self.costs[some], self.sides, self.names if self._is_matrix else None)
+        names = self.names if self._is_matrix else None
+        return Lists(self.rows[some], self.columns[some], self.costs[some], self.sides, names)
 
     def fault(self, place, sentence):
         """The fault of the cost at a place: what is said of it follows its row and column."""
@@ -91,7 +92,10 @@ class Problem:
         return 10**self.costs.decimals if isinstance(self.costs, DecimalCosts) else 1
 
     def answered(self, start, bids, words):
-        """The :class:`~.exact.Answer` of the solver, from prices in units of whole costs, floats in that of the costs, or None. Raises Infeasible, with these words."""
+        """The :class:`~.exact.Answer` of the solver. Raises Infeasible, with these words.
+
+        start: prices in units of whole costs, floats in the unit of the costs, or None.
+        """
         if self.persons == 0:
             return Answer(numpy.zeros(0, numpy.int64), [(numpy.zeros(self.objects, numpy.int64), 0)], 1, 0)
         try:
@@ -131,17 +135,16 @@ class Problem:
         told = self.costs.shown_bound(cost - self.sign * answer.gap) if answer.gap else shown
         prices, scale = priced(self.persons, self.objects, answer)
         rows, columns, entries = self._pairs(answer.choice)
-        costs, sides = self.costs.at(entries), self.lists.sides
-        scale *= self.decimal_scale
-        return Solution(rows, columns, entries, shown, told, prices, scale, cost, answer.gap or 0, None, costs, sides, self.sign < 0)
+        parts = rows, columns, entries, shown, told, prices, scale * self.decimal_scale, cost, answer.gap or 0, None
+        return Solution(*parts, self.costs.at(entries), self.lists.sides, self.sign < 0)
 
     def solution_of_units(self, found):
         """The Solution in the caller's decimals of one in whole units."""
         cost, gap = self.costs.amount(int(found.exact_cost)), abs(self.costs.amount(found.gap))
         shown = self.costs.shown(cost)
         told = self.costs.shown_bound(cost - self.sign * gap) if gap else shown
-        costs, scale = self.costs.at(found.entries), found.scale * self.decimal_scale
-        return found._replace(cost=shown, bound=told, scale=scale, exact_cost=cost, gap=gap or 0, costs=costs, maximize=self.sign < 0)
+        amounts = {"cost": shown, "bound": told, "exact_cost": cost, "gap": gap or 0, "costs": self.costs.at(found.entries)}
+        return found._replace(scale=found.scale * self.decimal_scale, maximize=self.sign < 0, **amounts)
 
 
 def look_at_sides(sides):

@@ -17,13 +17,18 @@ WORDS = f"{NO_ASSIGNMENT} with these pairs and capacities"
 def asked_of(rows, columns, costs, shape, maximize, decimals, missing, forced, forbidden, capacity):
     """What is asked, with or without restrictions."""
     asked = Asked(rows, columns, costs, shape, maximize, decimals, missing)
-    return asked if forced is None and forbidden is None and capacity is None else Restricted(asked, forced, forbidden, capacity)
+    return (
+        asked
+        if forced is None and forbidden is None and capacity is None
+        else Restricted(asked, forced, forbidden, capacity)
+    )
 
 
 class Restricted:
-    """What is asked, with a place for each row that a column may take, and the entries that are allowed. It is solved and checked as Asked is.
+    """What is asked, with the entries that are allowed, and a place of a column for each row that it may take.
 
-    A forced pair has a place of its own: nothing else is allowed to its row and to this place.
+    It is solved and checked as Asked is. A forced pair has a place of its own: nothing else is allowed to its row, nor
+    to this place.
     """
 
     def __init__(self, asked, forced, forbidden, capacity):
@@ -37,9 +42,13 @@ class Restricted:
             raise self._infeasible(numpy.arange(self.sides[0]), numpy.flatnonzero(self._capacity), False)
         # Of each row its own place, and of each place its own row, by a forced pair.
         self._place_of, self._row_of = (numpy.full(side, -1) for side in self.sides)
-        self._some, places = self._placed(self._allowed(Pairs(asked, forced, "forced"), Pairs(asked, forbidden, "forbidden")))
+        self._some, places = self._placed(
+            self._allowed(Pairs(asked, forced, "forced"), Pairs(asked, forbidden, "forbidden"))
+        )
         self.costs = lists.costs[self._some]
-        self._inner = Asked.of_lists(Lists(lists.rows[self._some], places, self.costs, self.sides), asked.maximize, asked.decimals)
+        self._inner = Asked.of_lists(
+            Lists(lists.rows[self._some], places, self.costs, self.sides), asked.maximize, asked.decimals
+        )
 
     def _allowed(self, forced, forbidden):
         """The caller's entries that aren't forbidden; each forced pair is one of them, and gets its place."""
@@ -113,13 +122,14 @@ class Restricted:
         places, ends = (numpy.searchsorted(self._some, entries, side) for side in ("left", "right"))
         if (places + ranks >= ends).any():
             place = (places + ranks >= ends).argmax()
-            raise Refused(f"{self._asked.names.told(rows[place], columns[place])} isn't allowed by the forced and forbidden pairs and capacities")
+            told = self._asked.names.told(rows[place], columns[place])
+            raise Refused(f"{told} isn't allowed by these pairs and capacities")
         look_at_names(self._asked.labels(rows, columns), self._asked.sides, solution)
         places, prices = places + ranks, solution.prices
         if not self._by_columns:
             prices = narrow(numpy.repeat(whole_list(prices, len(self._capacity)), self._capacity))
-        columns = self._inner.lists.columns[places]
-        self._inner.check(solution._replace(columns=columns, entries=places, prices=prices, labels=None, shape=self.sides))
+        parts = {"columns": self._inner.lists.columns[places], "entries": places, "prices": prices}
+        self._inner.check(solution._replace(labels=None, shape=self.sides, **parts))
 
 
 def _capacity_of(capacity, sides):

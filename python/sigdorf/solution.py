@@ -7,10 +7,11 @@ import numpy
 from numpy.typing import ArrayLike
 
 from .duals import duals_of, margins_of, reduced_costs_of
-from .shown import equal, hashed, shown_html, shown_pairs, unequal
+from .shown import compared_and_shown, shown_pairs
 from .whole import whole_prices
 
 
+@compared_and_shown
 class Solution(typing.NamedTuple):
     """A full assignment of the smaller side, and what shows that it costs least. Two are equal where all parts of them are.
 
@@ -32,8 +33,9 @@ class Solution(typing.NamedTuple):
     bound: int | float | decimal.Decimal
     """What no assignment costs less than (or more than, where the most is wanted): the cost, unless the bids didn't suffice."""
     prices: numpy.ndarray
-    """A price of each column (of each row, where there are more rows than columns), in units of 1 / `scale`: int64, or where that is too short
-    Python's whole numbers in an object array. At these prices no entry is more than 1 better for its row than the row's own pair."""
+    """A price of each column, or of each row where there are more rows than columns and no capacity, in units of
+    1 / `scale`: int64, or where that is too short Python's whole numbers in an object array. At these prices no entry
+    is more than 1 better for its row than the row's own pair. `u` and `v` are in the unit of the costs."""
     scale: int
     """A price of this number is one unit of the costs."""
     exact_cost: fractions.Fraction | None = None
@@ -54,8 +56,6 @@ class Solution(typing.NamedTuple):
         bound = "" if self.is_optimal else f"bound={self.bound!r}, "
         return f"Solution(cost={self.cost!r}, {bound}pairs={shown_pairs(self)})"
 
-    __eq__, __ne__, __hash__, _repr_html_ = equal, unequal, hashed, shown_html
-
     @property
     def is_optimal(self) -> bool:
         """Whether the cost is the least (or the most)."""
@@ -64,21 +64,24 @@ class Solution(typing.NamedTuple):
     def exact_prices(self) -> list[fractions.Fraction]:
         """A price of each column (or row), in the unit of the costs: Fractions at which no entry is better for its row than the row's own pair at all.
 
-        So the costs of the pairs are exactly the sum of what is best for each row, less the sum of the prices, and nothing is below that.
+        So the costs of the pairs are exactly the sum of what is best for each row, less the sum of the prices, and
+        nothing is below that.
         """
         persons, whole = len(self.rows), numpy.asarray(self.prices)
         if persons == 0:
             return [fractions.Fraction(0)] * len(whole)
         picked = self.rows if numpy.max(self.columns) < persons < len(whole) else self.columns
-        return [fractions.Fraction(int(price) * (persons + 1), self.scale) for price in whole_prices(persons, whole, picked)]
+        return [
+            fractions.Fraction(int(price) * (persons + 1), self.scale) for price in whole_prices(persons, whole, picked)
+        ]
 
     @property
     def u(self) -> numpy.ndarray:
         """The dual of each row, in the unit of the costs: an object array of Fractions; `u.astype(float)` has floats.
 
-        No allowed cost of a row and a column is below the sum of their duals (or above it, where the most is wanted), and those of the pairs are
-        this sum. What the smaller side leaves free has the dual 0. So the duals show the cost least: each column's counts as often as it may be
-        taken. Raises Unsettled where a limit ended the search.
+        No allowed cost of a row and a column is below the sum of their duals (or above it, where the most is wanted),
+        and those of the pairs are this sum. What the smaller side leaves free has the dual 0. So the duals show the
+        cost least: each column's counts as often as it may be taken. Raises Unsettled where a limit ended the search.
 
         >>> solution = sigdorf.solve([[1, 2.5], [1, 4]])
         >>> print(solution.u[0] + solution.v[1], solution.u[1] + solution.v[0], sum(solution.u) + sum(solution.v))
@@ -94,8 +97,8 @@ class Solution(typing.NamedTuple):
     def reduced_costs(self, rows: ArrayLike, columns: ArrayLike, costs: ArrayLike) -> numpy.ndarray:
         """The cost of each of these pairs less the duals of its row and column, exactly: an object array of Fractions.
 
-        It is how far the cost of a pair that isn't the solution's may fall (or rise, where the most is wanted and it is negative), alone, while
-        this solution stays best.
+        It is how far the cost of a pair that isn't the solution's may fall (or rise, where the most is wanted and it is
+        negative), alone, while this solution stays best.
 
         >>> print(*sigdorf.solve([[1, 2.5], [1, 4]]).reduced_costs([0, 0, 1, 1], [0, 1, 0, 1], [1, 2.5, 1, 4]))
         0 0 0 3/2
@@ -103,10 +106,10 @@ class Solution(typing.NamedTuple):
         return reduced_costs_of(self, rows, columns, costs)
 
     def margins(self, rows: ArrayLike, columns: ArrayLike, costs: ArrayLike) -> numpy.ndarray:
-        """How far the cost of each pair of the solution may rise (or fall, where the most is wanted), alone, while this solution stays best.
+        """How far the cost of each pair may rise, alone, while the solution stays best; or fall, where the most is wanted.
 
-        The arguments are all entries of the problem. It is what the duals show, and may be more in truth: Fractions, or infinity where the pair is
-        the only entry of its row and column.
+        The arguments are all entries of the problem. It is what the duals show, and may be more in truth: Fractions, or
+        infinity where the pair is the only entry of its row and column.
 
         >>> print(*sigdorf.solve([[1, 9], [9, 1]]).margins([0, 0, 1, 1], [0, 1, 0, 1], [1, 9, 9, 1]))
         8 8

@@ -7,14 +7,15 @@ from .assignment import solve
 from .edges import Edges
 from .solution import Solution
 from .starts import Kept
-from .tables import NUMBERS, named
+from .tables import named
 
 
 class Solver:
-    """Solves problems that are like one another: frames, or a table of which some is changed, added or left out, for a "what if".
+    """Solves problems that are like one another, such as frames, or a table that is changed for a "what if".
 
-    Each answer is that of :func:`solve`. The duals of the last one are where the next search starts from, by names where the table has some; else a
-    row or column is the one of the same number. Where they are of no use, as with another number of columns, they are dropped.
+    Each answer is that of :func:`solve`. The duals of the last one are where the next search starts from, by names
+    where the table has some; else a row or column is the one of the same number. Where they are of no use, as with
+    another number of columns, they are dropped.
 
     >>> solver, table = sigdorf.Solver(), numpy.array([[4.5, 1], [2, 3]])
     >>> solver.solve(table)
@@ -43,5 +44,5 @@ class Solver:
         5
         """
         solution = solve(rows, columns, costs, shape, start=self._kept, **words)
-        self._kept = Kept(solution, rows.lists.names if isinstance(rows, Edges) else NUMBERS if columns is not None else named(rows)[1])
+        self._kept = Kept(solution, rows.lists.names if isinstance(rows, Edges) else named(rows)[1])
         return solution

@@ -19,7 +19,7 @@ class Kept:
         self._maximize, self._names, self._prices = solution.maximize, names, attempt(_prices_of, solution)
 
     def prices(self, by_rows, count, names, maximize):
-        """A price of each row or of each column, in the unit of the costs; 0 of a new name. None where none of them is of use."""
+        """A price of each row or of each column, in the unit of the costs, 0 of a new name; or None of no use."""
         if self._prices is None or maximize is not self._maximize:
             return None
         place = 0 if by_rows else 1
@@ -60,15 +60,18 @@ def in_whole_units(prices, factor, finer):
 
 
 def finer_by(costs):
-    """By how many powers of two costs that are floats have to be greater, so that whole prices are fine enough to start from."""
+    """By how many powers of two floats have to be greater, so that whole prices are fine enough to start from."""
     finite = costs[numpy.isfinite(costs)]
     return 0 if are_small(finite) else max(0, BITS - math.frexp(max(-finite.min(), finite.max()))[1])
 
 
-def made_smaller(solution, finer, costs):
-    """The Solution of these costs of its pairs, of one whose costs are greater by so many powers of two."""
+def made_smaller(solution, finer):
+    """The Solution of the caller's costs, of one of costs that are greater by so many powers of two."""
+    costs = numpy.ldexp(solution.costs, -finer)
     exact, gap = (fractions.Fraction(amount) / (1 << finer) for amount in (solution.exact_cost, solution.gap))
     shown = bound = nearest_float(exact)
     if gap:
         bound = outer_bound(exact + gap if solution.maximize else exact - gap, solution.maximize, False)
-    return solution._replace(cost=shown, bound=bound, scale=solution.scale << finer, exact_cost=exact, gap=gap or 0, costs=costs)
+    return solution._replace(
+        cost=shown, bound=bound, scale=solution.scale << finer, exact_cost=exact, gap=gap or 0, costs=costs
+    )

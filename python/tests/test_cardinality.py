@@ -47,8 +47,13 @@ class Cardinality(Limited):
 
     def test_more_pairs_count_more_than_any_cost(self):
         for great in (1e9, 1e300, 2.0**60):
-            self.assertEqual(sigdorf.max_cardinality_match([[-great, great], [math.inf, -great], [great, math.inf]]).rows.tolist(), [0, 1])
-            self.assertEqual(sigdorf.max_cardinality_match([[-great, great], [-great, math.inf]]).columns.tolist(), [1, 0])
+            self.assertEqual(
+                sigdorf.max_cardinality_match([[-great, great], [math.inf, -great], [great, math.inf]]).rows.tolist(),
+                [0, 1],
+            )
+            self.assertEqual(
+                sigdorf.max_cardinality_match([[-great, great], [-great, math.inf]]).columns.tolist(), [1, 0]
+            )
         self.assertEqual(len(sigdorf.max_cardinality_match(numpy.zeros((3, 4))).rows), 3)
 
     def test_forms(self):
@@ -56,21 +61,27 @@ class Cardinality(Limited):
         found = sigdorf.max_cardinality_match(costs, rows=rows, columns=columns, shape=(4, 3))
         self.assertEqual([side.tolist() for side in found[:4]], [[1, 2], [0, 2], [0, 3], [1]])
         if scipy:
-            self.assertEqual(sigdorf.max_cardinality_match(scipy.sparse.csr_matrix((costs, (rows, columns)), (4, 3))), found)
+            self.assertEqual(
+                sigdorf.max_cardinality_match(scipy.sparse.csr_matrix((costs, (rows, columns)), (4, 3))), found
+            )
         for kind in ("u1", "i4", "i8", "u8", "f4", "g", "?"):
             for maximize in (False, True):
                 found = sigdorf.max_cardinality_match(numpy.array([[1, 0], [0, 0], [1, 1]], kind), maximize=maximize)
                 self.assertEqual(found.costs.tolist(), [1, 1] if maximize else [0, 0])
         self.assertEqual(sigdorf.max_cardinality_match(numpy.array([[2**58 + 1, 2**58 + 2]])).columns.tolist(), [0])
         for shape in [(0, 0), (0, 3), (2, 0)]:
-            self.assertEqual([len(side) for side in sigdorf.max_cardinality_match(numpy.zeros(shape))[:4]], [0, 0, *shape])
+            self.assertEqual(
+                [len(side) for side in sigdorf.max_cardinality_match(numpy.zeros(shape))[:4]], [0, 0, *shape]
+            )
 
     def test_faults(self):
         for costs in ([[1.0, math.nan]], [[1.0, -math.inf]], [1.0], "ab", [[None]], numpy.zeros((2, 2), object)):
             with self.assertRaises(ValueError):
                 sigdorf.max_cardinality_match(costs)
         for costs in (numpy.full((2, 2), 2**61), numpy.full((2, 2), 2**60, "u8"), numpy.full((2, 2), 1e308)):
-            with self.assertRaisesRegex(ValueError, "too great to make as many of 2 pairs as possible: scale them down"):
+            with self.assertRaisesRegex(
+                ValueError, "too great to make as many of 2 pairs as possible: scale them down"
+            ):
                 sigdorf.max_cardinality_match(costs)
 
 

@@ -12,7 +12,6 @@ from test_manners import Frame
 from test_restricted import least_of_all
 
 
-
 def entries_of(table):
     rows, columns = numpy.nonzero(numpy.isfinite(table))
     return rows, columns, table[rows, columns]
@@ -73,7 +72,10 @@ class Duals(Limited):
         """The least cost of a table of Fractions, or of None for no entry."""
         if exact.shape[0] > exact.shape[1]:
             exact = exact.T
-        costs = [[exact[row, column] for row, column in enumerate(taken)] for taken in itertools.permutations(range(exact.shape[1]), exact.shape[0])]
+        costs = [
+            [exact[row, column] for row, column in enumerate(taken)]
+            for taken in itertools.permutations(range(exact.shape[1]), exact.shape[0])
+        ]
         return (max if maximize else min)(sum(some) for some in costs if None not in some)
 
     def test_units(self):
@@ -91,7 +93,16 @@ class Duals(Limited):
 
     def test_faults(self):
         solution = sigdorf.solve([[1, 2], [1, 4]])
-        for given in (([0], [2], [1]), ([0], [-1], [1]), ([0, 1], [0], [1]), ([0], [0], [1, 2]), ([0], [0], [math.nan]), ([0], [0], [math.inf]), ([0], [0], ["x"]), ([0.0], [0], [1])):
+        for given in (
+            ([0], [2], [1]),
+            ([0], [-1], [1]),
+            ([0, 1], [0], [1]),
+            ([0], [0], [1, 2]),
+            ([0], [0], [math.nan]),
+            ([0], [0], [math.inf]),
+            ([0], [0], ["x"]),
+            ([0.0], [0], [1]),
+        ):
             for call in (solution.reduced_costs, solution.margins):
                 with self.subTest(given=given), self.assertRaises(ValueError):
                     call(*given)
@@ -104,7 +115,16 @@ class Duals(Limited):
         """A check looks at what the duals are made of."""
         table = [[1, 2], [1, 4]]
         solution = sigdorf.solve(table)
-        for parts in ({"costs": [2, 2]}, {"costs": [2]}, {"costs": "ab"}, {"costs": 5}, {"shape": (2, 3)}, {"shape": 5}, {"maximize": True}, {"maximize": None}):
+        for parts in (
+            {"costs": [2, 2]},
+            {"costs": [2]},
+            {"costs": "ab"},
+            {"costs": 5},
+            {"shape": (2, 3)},
+            {"shape": 5},
+            {"maximize": True},
+            {"maximize": None},
+        ):
             with self.subTest(parts), self.assertRaises(sigdorf.Refused):
                 sigdorf.check(solution._replace(**parts), table)
         sigdorf.check(solution._replace(costs=None, shape=None), table)

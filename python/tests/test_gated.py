@@ -138,7 +138,7 @@ class OwnLimits(Limited):
                 sigdorf.match(costs, limit)
         with self.assertRaisesRegex(ValueError, "row 0, column 1 has nan"):
             sigdorf.match([[1, math.nan]], [1])
-        with self.assertRaisesRegex(ValueError, "10,000 at most together where columns have limits"):
+        with self.assertRaisesRegex(ValueError, "10,000 at most together with limits of columns"):
             sigdorf.match([1], 5, rows=[0], columns=[0], shape=(5_000, 5_001), column_limit=1)
         with self.assertRaisesRegex(ValueError, "20,000 at most together"):
             sigdorf.match([1], [5] * 5_000, rows=[0], columns=[0], shape=(5_000, 15_001))

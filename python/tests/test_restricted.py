@@ -30,7 +30,11 @@ def least_of_all(table, maximize, forced, forbidden, capacity):
     """The least (or greatest) cost of these, or None."""
     costs = []
     for pairs in assignments_of(table, capacity):
-        if set(forced) <= set(pairs) and not set(forbidden) & set(pairs) and all(numpy.isfinite(table[pair]) for pair in pairs):
+        if (
+            set(forced) <= set(pairs)
+            and not set(forbidden) & set(pairs)
+            and all(numpy.isfinite(table[pair]) for pair in pairs)
+        ):
             costs.append(sum(fractions.Fraction(table[pair].item()) for pair in pairs))
     return (max if maximize else min)(costs, default=None)
 
@@ -42,7 +46,11 @@ class Restricted(Limited):
         for number in range(400):
             table, maximize = table_of(random, number), number % 2 == 1
             every = [tuple(pair.tolist()) for pair in random.permutation(numpy.argwhere(numpy.isfinite(table)))]
-            forced = [pair for place, pair in enumerate(every[: number % 3]) if pair[0] not in [other[0] for other in every[:place]]]
+            forced = [
+                pair
+                for place, pair in enumerate(every[: number % 3])
+                if pair[0] not in [other[0] for other in every[:place]]
+            ]
             forbidden = [pair for pair in every[3:6] if pair not in forced]
             capacity = [None, 2, random.integers(0, 3, table.shape[1])][number // 3 % 3]
             words = {"maximize": maximize, "forced": forced, "forbidden": forbidden, "capacity": capacity}
@@ -50,7 +58,9 @@ class Restricted(Limited):
                 least = least_of_all(table, **words)
                 counts[least is None] += 1
                 if least is None:
-                    with self.assertRaisesRegex(ValueError, "with these pairs and capacities|beyond the capacity of its column"):
+                    with self.assertRaisesRegex(
+                        ValueError, "with these pairs and capacities|beyond the capacity of its column"
+                    ):
                         sigdorf.solve(table, **words)
                     continue
                 found = sigdorf.solve(table, **words)
@@ -71,7 +81,11 @@ class Restricted(Limited):
     def test_wrong_claims(self):
         """A check takes the restrictions too, and refuses what they don't allow, or isn't least with them."""
         table = [[1, 2, 5], [1, 4, 9], [1, 3, 7]]
-        free, forced, shared = sigdorf.solve(table), sigdorf.solve(table, forced=[(0, 0)]), sigdorf.solve(table, capacity=2)
+        free, forced, shared = (
+            sigdorf.solve(table),
+            sigdorf.solve(table, forced=[(0, 0)]),
+            sigdorf.solve(table, capacity=2),
+        )
         self.assertEqual([found.cost for found in (free, forced, shared)], [9, 12, 4])
         for claim, words, reason in [
             (free, {"forced": [(0, 0)]}, "isn't allowed"),
@@ -97,11 +111,16 @@ class Restricted(Limited):
             self.assertEqual(sigdorf.solve(table, **words).labels, [("Ada", "roof"), ("Bo", "wall")])
             with self.assertRaisesRegex(ValueError, "forced: there is no row 'Ada', column 'door'"):
                 sigdorf.solve(table, forced=[("Ada", "door")])
-            with self.assertRaisesRegex(ValueError, "forced: row 'Bo', column 'roof' is beyond the capacity of its column"):
+            with self.assertRaisesRegex(
+                ValueError, "forced: row 'Bo', column 'roof' is beyond the capacity of its column"
+            ):
                 sigdorf.solve(table, forced=[("Ada", "roof"), ("Bo", "roof")])
             with self.assertRaises(sigdorf.Infeasible) as caught:
                 sigdorf.solve(table, forbidden=[("Ada", "roof"), ("Bo", "roof")])
-            self.assertEqual(str(caught.exception), "no full assignment exists with these pairs and capacities: 2 rows have entries in only 1 column (rows Ada, Bo; column wall)")
+            self.assertEqual(
+                str(caught.exception),
+                "no full assignment exists with these pairs and capacities: 2 rows have entries in only 1 column (rows Ada, Bo; column wall)",
+            )
             self.assertEqual(sigdorf.solve(table, capacity=[2, 0]).labels, [("Ada", "roof"), ("Bo", "roof")])
         with self.assertRaisesRegex(ValueError, "forbidden: a row or a column has the name of another one"):
             sigdorf.solve(Frame([[1], [1]], ["Ada", "Ada"], ["roof"]), forbidden=[("Ada", "roof")])

@@ -16,8 +16,12 @@ if numpy:
 
 def same(one, other):
     """Whether two solutions have the same pairs at the same cost; prices may differ."""
-    return all(numpy.array_equal(left, right) for left, right in zip(one[:3], other[:3])) and (one.cost, one.exact_cost, one.labels, one.shape) == (
-        other.cost, other.exact_cost, other.labels, other.shape)
+    return all(numpy.array_equal(left, right) for left, right in zip(one[:3], other[:3])) and (
+        one.cost,
+        one.exact_cost,
+        one.labels,
+        one.shape,
+    ) == (other.cost, other.exact_cost, other.labels, other.shape)
 
 
 class Starts(Limited):
@@ -47,37 +51,71 @@ class Starts(Limited):
             wanted = sigdorf.solve(table)
             for given in ((table.tolist(),), listed(table), (numpy.asfortranarray(table),), (table.astype("g"),)):
                 self.assertEqual(sigdorf.solve(*given, start=start).exact_cost, wanted.exact_cost)
-            self.assertEqual(sigdorf.solve(table, start=start, decimals=3).columns.tolist(), sigdorf.solve(table, decimals=3).columns.tolist())
+            self.assertEqual(
+                sigdorf.solve(table, start=start, decimals=3).columns.tolist(),
+                sigdorf.solve(table, decimals=3).columns.tolist(),
+            )
             self.assertEqual(sigdorf.solve(table, start=start, seconds=60).columns.tolist(), wanted.columns.tolist())
-            self.assertEqual(sigdorf.solve(table, start=start, capacity=9), sigdorf.solve(table, start=sigdorf.solve(table, capacity=9), capacity=9))
+            self.assertEqual(
+                sigdorf.solve(table, start=start, capacity=9),
+                sigdorf.solve(table, start=sigdorf.solve(table, capacity=9), capacity=9),
+            )
             with unittest.mock.patch.object(fast, "_extension", None):
                 self.assert_same(table, start)
             if scipy:
-                self.assertEqual(sigdorf.solve(scipy.sparse.csr_matrix(table), start=start).exact_cost, wanted.exact_cost)
+                self.assertEqual(
+                    sigdorf.solve(scipy.sparse.csr_matrix(table), start=start).exact_cost, wanted.exact_cost
+                )
 
     def test_unit(self):
         """The library gets the very prices of the solution, whatever the unit of the costs."""
         random = numpy.random.default_rng(3)
-        for factor, kind in ((1, int), (1, float), (0.125, float), (1e-12, float), (1e-300, float), (1e300, float), (10**6, int)):
+        for factor, kind in (
+            (1, int),
+            (1, float),
+            (0.125, float),
+            (1e-12, float),
+            (1e-300, float),
+            (1e300, float),
+            (10**6, int),
+        ):
             for shape in ((5, 7), (6, 6), (7, 5)):
-                table = (random.integers(1, 999, shape) * (factor * (1.1 if kind is float and factor != 1 else 1))).astype(kind)
+                table = (
+                    random.integers(1, 999, shape) * (factor * (1.1 if kind is float and factor != 1 else 1))
+                ).astype(kind)
                 for maximize in (False, True):
                     solution = sigdorf.solve(table, maximize=maximize)
-                    for given in (solution, solution._replace(scale=2 * solution.scale, prices=2 * solution.prices.astype(object))):
+                    for given in (
+                        solution,
+                        solution._replace(scale=2 * solution.scale, prices=2 * solution.prices.astype(object)),
+                    ):
                         with unittest.mock.patch.object(fast, "solution_of", return_value=solution) as called:
                             asked = Asked(table, maximize=maximize)
                             asked.solution(asked.start_of(given), 10**8)
                         problem, _, start, _ = called.call_args[0]
                         unit = fractions.Fraction(problem.max().item()) / fractions.Fraction(table.max().item())
                         wanted = [price * unit * (min(shape) + 1) for price in solution.exact_prices()]
-                        self.assertTrue(all(abs(one - min(other, 2**60)) <= 1 for one, other in zip(start.tolist(), wanted)), (start, wanted))
+                        self.assertTrue(
+                            all(abs(one - min(other, 2**60)) <= 1 for one, other in zip(start.tolist(), wanted)),
+                            (start, wanted),
+                        )
                         if kind is float and factor < 1:
                             self.assertGreater(problem.max(), 2**27)
 
     def test_of_no_use(self):
         table = numpy.array([[1.5, 2], [1, 4]])
         solution = sigdorf.solve(table)
-        faults = [{"scale": 0}, {"prices": None}, {"prices": [math.nan] * 2}, {"prices": [10**400] * 2}, {"shape": None}, {"costs": None}, {"maximize": None}, {"prices": []}, {"columns": [9, 9]}]
+        faults = [
+            {"scale": 0},
+            {"prices": None},
+            {"prices": [math.nan] * 2},
+            {"prices": [10**400] * 2},
+            {"shape": None},
+            {"costs": None},
+            {"maximize": None},
+            {"prices": []},
+            {"columns": [9, 9]},
+        ]
         for parts in faults:
             self.assertEqual(sigdorf.solve(table, start=solution._replace(**parts)), solution)
         for start in (tuple(solution), "solution", [0.5, 1.5]):

@@ -25,7 +25,9 @@ class Missing(Limited):
         names = [["Ada", "Bo"], ["roof", "wall", "door"]]
         for kind in ("f8", "f4", "f2", ">f8", "g"):
             array = numpy.array(self.TABLE, kind)
-            for table in (array, array.tolist(), Frame(array, *names)) + ((pandas.DataFrame(array.astype(float), *names),) if pandas else ()):
+            for table in (array, array.tolist(), Frame(array, *names)) + (
+                (pandas.DataFrame(array.astype(float), *names),) if pandas else ()
+            ):
                 found = sigdorf.solve(table, missing="forbidden")
                 self.assertEqual((found.cost, found.columns.tolist()), (5, [0, 1]))
                 sigdorf.check(found, table, missing="forbidden")
@@ -33,13 +35,22 @@ class Missing(Limited):
                 self.assertEqual([one.cost for one in sigdorf.k_best(table, 9, missing="forbidden")], [5, 6, 9])
                 self.assertEqual(sigdorf.match(table, 1, missing="forbidden").columns.tolist(), [0])
                 self.assertEqual(sigdorf.max_cardinality_match(table, missing="forbidden").columns.tolist(), [0, 1])
-                self.assertTrue(numpy.isnan(numpy.asarray(table.to_numpy() if hasattr(table, "to_numpy") else table)[0, 1]))
+                self.assertTrue(
+                    numpy.isnan(numpy.asarray(table.to_numpy() if hasattr(table, "to_numpy") else table)[0, 1])
+                )
         self.assertEqual(sigdorf.solve([[math.nan, 3.0, 4.0]], missing="forbidden", maximize=True).cost, 4)
         self.assertEqual(sigdorf.solve([[1, 2]], missing="forbidden").cost, 1)
 
     def test_refused(self):
-        for call in (sigdorf.solve, lambda table: sigdorf.match(table, 5), sigdorf.max_cardinality_match, sigdorf.linear_sum_assignment):
-            with self.assertRaisesRegex(ValueError, "row 0, column 1 has nan; where that is no entry, solve and match take missing='forbidden'"):
+        for call in (
+            sigdorf.solve,
+            lambda table: sigdorf.match(table, 5),
+            sigdorf.max_cardinality_match,
+            sigdorf.linear_sum_assignment,
+        ):
+            with self.assertRaisesRegex(
+                ValueError, "row 0, column 1 has nan; where that is no entry, solve and match take missing='forbidden'"
+            ):
                 call(self.TABLE)
         with self.assertRaisesRegex(ValueError, "row 0, column 0 has -inf$"):
             sigdorf.solve([[-math.inf, 2]], missing="forbidden")
@@ -99,17 +110,26 @@ class Named(Limited):
         forms = [self.EDGES]
         if pandas:
             frame = pandas.DataFrame(dict(zip(("worker", "task", "cost"), self.EDGES)))
-            forms += [(frame["worker"], frame["task"], frame["cost"]), (frame["worker"].astype("category"), frame["task"].astype("string"), frame["cost"].astype("Float64"))]
+            forms += [
+                (frame["worker"], frame["task"], frame["cost"]),
+                (frame["worker"].astype("category"), frame["task"].astype("string"), frame["cost"].astype("Float64")),
+            ]
         for form in forms:
             edges = sigdorf.Edges(*form)
             found = sigdorf.solve(edges)
-            self.assertEqual((found.cost, found.labels, found.entries.tolist()), (4.5, [("Ada", "wall"), ("Bo", "roof")], [2, 1]))
+            self.assertEqual(
+                (found.cost, found.labels, found.entries.tolist()), (4.5, [("Ada", "wall"), ("Bo", "roof")], [2, 1])
+            )
             sigdorf.check(found, edges)
             self.assertEqual(sigdorf.certify(found.rows, found.columns, edges), found)
             self.assertEqual([one.cost for one in sigdorf.k_best(edges, 9)], [4.5, 10.5, 13])
             self.assertEqual(sigdorf.match(edges, 3).labels, [("Ada", "wall"), ("Bo", "roof")])
-            self.assertEqual(sigdorf.max_cardinality_match(edges, maximize=True).labels, [("Ada", "roof"), ("Bo", "door")])
-            self.assertEqual(sigdorf.solve(edges, forced=[("Bo", "door")], decimals=1).labels, [("Ada", "wall"), ("Bo", "door")])
+            self.assertEqual(
+                sigdorf.max_cardinality_match(edges, maximize=True).labels, [("Ada", "roof"), ("Bo", "door")]
+            )
+            self.assertEqual(
+                sigdorf.solve(edges, forced=[("Bo", "door")], decimals=1).labels, [("Ada", "wall"), ("Bo", "door")]
+            )
             self.assertEqual(sigdorf.solve_many([edges] * 2, 1)[1], found)
         self.assertEqual(sigdorf.solve(sigdorf.Edges([], [], [])).cost, 0)
 
@@ -117,7 +137,9 @@ class Named(Limited):
         edges = sigdorf.Edges([(1, 2), 7, "x"], ["only"] * 3, [5, 4, 6])
         self.assertEqual(sigdorf.solve(edges).labels, [(7, "only")])
         with self.assertRaises(sigdorf.Infeasible) as caught:
-            sigdorf.solve(sigdorf.Edges(["Ada", "Bo", "Cy"], ["roof", "roof", "wall"], [1, 2, 3]), forbidden=[("Cy", "wall")])
+            sigdorf.solve(
+                sigdorf.Edges(["Ada", "Bo", "Cy"], ["roof", "roof", "wall"], [1, 2, 3]), forbidden=[("Cy", "wall")]
+            )
         self.assertIn("1 column has entries in only 0 rows (column wall; no row)", str(caught.exception))
 
     def test_faults(self):

@@ -53,7 +53,7 @@ def look_at_names(labels, sides, solution):
     """Refuses a solution with other labels or of another shape."""
     if type(solution.labels) is not type(labels) or attempt(lambda given: given == labels, solution.labels) is not True:
         raise Refused("the labels of the solution are not those of its rows and columns")
-    if solution.shape is not None and attempt(tuple, solution.shape) != sides:
+    if solution.shape is not None and attempt(lambda given: tuple(given) == sides, solution.shape) is not True:
         raise Refused("the shape of the solution is not that of the problem")
 
 

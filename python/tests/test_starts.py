@@ -56,10 +56,9 @@ class Starts(Limited):
                 sigdorf.solve(table, decimals=3).columns.tolist(),
             )
             self.assertEqual(sigdorf.solve(table, start=start, seconds=60).columns.tolist(), wanted.columns.tolist())
-            self.assertEqual(
-                sigdorf.solve(table, start=start, capacity=9),
-                sigdorf.solve(table, start=sigdorf.solve(table, capacity=9), capacity=9),
-            )
+            shared = sigdorf.solve(table, capacity=9)
+            for one in (start, shared):
+                self.assertTrue(same(sigdorf.solve(table, start=one, capacity=9), shared))
             with unittest.mock.patch.object(fast, "_extension", None):
                 self.assert_same(table, start)
             if scipy:

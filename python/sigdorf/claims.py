@@ -9,7 +9,7 @@ import fractions
 import numpy
 
 from .amounts import FINEST, in_units, unit_of
-from .arguments import INT64, attempt, is_whole, whole_numbers
+from .arguments import INT64, array_of, attempt, is_whole, whole_numbers
 from .faults import Refused
 from .library import CLAIM_FAULTS, OTHER_SIZE, check_arcs
 from .solution import Solution
@@ -27,7 +27,8 @@ LEAST = 1e-322
 def check_claim(problem, solution):
     """Raises Refused, with a sentence, where the solution isn't least."""
     look_at_kind(solution)
-    choice = _choice_of(problem, solution)
+    entries = _entries_of(problem, solution)
+    choice = entries[numpy.argsort(problem.arcs["person"][entries], kind="stable")]
     cost = problem.costs.total(choice)
     if _amount(solution.cost) != problem.costs.shown(cost):
         raise Refused(CLAIM_FAULTS[4])
@@ -39,7 +40,7 @@ def check_claim(problem, solution):
     else:
         _check_exactly(problem, solution, choice)
     _look_at_amounts(problem, solution, cost)
-    _look_at_costs(problem, solution)
+    _look_at_costs(problem, entries, solution)
     look_at_names(problem.labels(solution.rows, solution.columns), problem.lists.sides, solution)
 
 
@@ -57,24 +58,24 @@ def look_at_names(labels, sides, solution):
         raise Refused("the shape of the solution is not that of the problem")
 
 
-def _look_at_costs(problem, solution):
+def _look_at_costs(problem, entries, solution):
     """Refuses a solution with other costs of its pairs, or of the other way."""
     if solution.costs is not None:
-        wanted = problem.costs.at(solution.entries).tolist()
-        if attempt(lambda given: numpy.asarray(given).tolist() == wanted, solution.costs) is not True:
+        costs = attempt(lambda given: array_of(given, "costs", len(entries)), solution.costs)
+        if costs is None or costs.shape != entries.shape or costs.tolist() != problem.costs.at(entries).tolist():
             raise Refused("the costs of the solution are not those of its entries")
     if solution.maximize is not (problem.sign < 0):
         raise Refused("the solution doesn't say whether the most is wanted")
 
 
-def _choice_of(problem, solution):
-    """The place of an arc of each person, of a solution whose pairs are entries of the problem."""
+def _entries_of(problem, solution):
+    """The places of the entries of a solution, whose pairs are entries of the problem."""
     entries = listed_of(solution.entries, "entries", (0, len(problem.arcs) - 1), problem.persons, NO_ENTRY)
     for name, side in (("rows", problem.lists.rows), ("columns", problem.lists.columns)):
         places = listed_of(getattr(solution, name), name, INT64, problem.persons, OTHER_SIZE)
         if not numpy.array_equal(places, side[entries]):
             raise Refused("the rows and columns of the solution are not those of its entries")
-    return entries[numpy.argsort(problem.arcs["person"][entries], kind="stable")]
+    return entries
 
 
 def _look_at_amounts(problem, solution, cost):

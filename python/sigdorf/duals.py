@@ -4,7 +4,7 @@ import math
 
 import numpy
 
-from .arguments import attempt, whole_numbers
+from .arguments import MOST_ENTRIES, array_of, attempt, whole_numbers
 from .faults import Unsettled
 
 
@@ -35,8 +35,10 @@ def reduced_costs_of(solution, rows, columns, costs):
         whole_numbers(side, name, 0, count - 1)
         for side, name, count in zip((rows, columns), ("rows", "columns"), solution.shape)
     )
-    exact = attempt(lambda given: _exactly(numpy.asarray(given).tolist()), costs)
-    if exact is None or not len(rows) == len(columns) == len(exact):
+    listed = array_of(costs, "costs", MOST_ENTRIES)
+    is_right = listed.dtype.kind in "biufO" and listed.shape == rows.shape == columns.shape
+    exact = attempt(_exactly, listed.tolist()) if is_right else None
+    if exact is None:
         raise ValueError("costs must be finite numbers, as many as rows and columns")
     return exact - u[rows] - v[columns]
 

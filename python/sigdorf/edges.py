@@ -4,7 +4,7 @@ import typing
 import numpy
 from numpy.typing import ArrayLike
 
-from .arguments import attempt
+from .arguments import MOST_ENTRIES, attempt
 from .problem import Lists, costs_in, look_at_sides
 from .tables import Names
 
@@ -84,6 +84,8 @@ def _lists_of(numbered_rows, numbered_columns, costs):
 
 def _numbered(names, argument, numbers):
     """The numbers of names, and a dict of all names that are numbered, in order; new ones are put into it."""
+    if (attempt(len, names) or 0) > MOST_ENTRIES:
+        raise ValueError(f"{argument} must number {MOST_ENTRIES:,} at most")
     places = attempt(lambda given: [numbers.setdefault(name, len(numbers)) for name in given], names)
     if places is None or isinstance(names, (str, bytes)):
         raise ValueError(f"{argument} must be a list of names")

@@ -107,12 +107,18 @@ def _limit_of(costs, limit):
         if not type_of_costs.min <= limit <= type_of_costs.max:
             raise ValueError(f"limit must be within the type of the costs, {type_of_costs.dtype}")
         return int(limit)
-    near = attempt(float, limit)
-    if isinstance(limit, (str, bytes)) or near is None or not math.isfinite(near) or near != limit:
+    near = None if isinstance(limit, (str, bytes)) else attempt(_exact_float, limit)
+    if near is None:
         raise ValueError("limit must be a finite number, that a float of 64 bits is")
     if costs.dtype.kind in "biu" and costs.size and max(-int(costs.min()), int(costs.max())) > 2**53:
         raise ValueError("limit must be a whole number where costs are whole numbers beyond 2^53")
     return near
+
+
+def _exact_float(number):
+    """A finite number as a float, or None where that isn't the same."""
+    near = float(number)
+    return near if math.isfinite(near) and near == number else None
 
 
 def _as_limit(costs, limit):

@@ -100,7 +100,7 @@ class Duals(Limited):
             ([0], [0], [1, 2]),
             ([0], [0], [math.nan]),
             ([0], [0], [math.inf]),
-            ([0], [0], ["x"]),
+            ([0], [0], ["1"]),
             ([0.0], [0], [1]),
         ):
             for call in (solution.reduced_costs, solution.margins):

@@ -43,20 +43,20 @@ def solve(
     columns may be unequal.
 
     rows, columns: int arrays of one length, from 0; a pair may stand twice.
-    costs: int or float array of the same length, of at most 64 bits a number. Each counts exactly as it stands: no
+    costs: int or float array of the same length, of at most 64 bits a number. Each counts exactly as it is: no
         assignment has a smaller sum, of all digits that these numbers have. Costs that are no whole numbers to 10^9
         take a few searches in place of one.
     shape: numbers of rows and of columns; where it is left out, one more than the greatest of each. 10,000 on the
         smaller side, 20,000 on the larger one, 33,554,432 entries.
     maximize: whether the most is wanted.
-    decimals: 0 to 9, for floats that stand for decimal numbers: what counts is costs * 10^decimals, which must be whole
+    decimals: 0 to 9, for floats that mean decimal numbers: what counts is costs * 10^decimals, which must be whole
         numbers to 10^9 in magnitude, and a float must be the one nearest to such a number, of its own type.
     missing: "forbidden" makes no entries of a table's cells that are NaN, or missing; where it is left out, such cells
         are a fault.
     forced, forbidden: lists of pairs (row, column), by numbers, or by names where the table has them: the assignment
         has each forced pair, and no forbidden one. A forced pair is an entry.
     capacity: how many rows a column may take, a whole number or a list with one of each column. Each row gets a column
-        then, and a column stands in the solution as often as it is taken.
+        then, and a column appears in the solution as often as it is taken.
     start: an earlier Solution of a problem like this one, from whose duals a run may be shorter: of any costs, also
         floats. Where it is of no use, as of another number of columns, it is dropped. Or prices from 0 to 2^60, on the
         scale of whole costs times the smaller side + 1 (of decimals, 10^decimals times that); they may be wrong.

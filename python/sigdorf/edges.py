@@ -15,7 +15,7 @@ class Edges:
     """Names of rows and columns that may be paired, at which cost, in place of a table: what isn't named is no pair.
 
     rows, columns: names of one length, whatever can be a key of a dict, such as the columns of a long DataFrame. Rows
-        and columns are numbered by their first edges, and each pair stands once.
+        and columns are numbered by their first edges, and no pair appears twice.
     costs: int or float array of the same length, as :func:`solve` takes it.
 
     >>> edges = sigdorf.Edges(["Ada", "Ada", "Bo"], ["roof", "wall", "roof"], [4, 1, 3])
@@ -68,7 +68,7 @@ def _directed(edge, mine, weight):
 
 
 def _lists_of(numbered_rows, numbered_columns, costs):
-    """The Lists of rows and columns with their names, where no pair stands twice."""
+    """The Lists of rows and columns with their names, where no pair appears twice."""
     (rows, row_names), (columns, column_names), costs = numbered_rows, numbered_columns, costs_in(costs)
     if not len(rows) == len(columns) == len(costs):
         raise ValueError("rows and columns must be as many as the costs")
@@ -78,7 +78,7 @@ def _lists_of(numbered_rows, numbered_columns, costs):
     again = (numpy.diff(rows[order]) == 0) & (numpy.diff(columns[order]) == 0)
     if again.any():
         place = order[again.argmax()]
-        raise ValueError(f"{names.told(rows[place], columns[place])}: the pair stands twice")
+        raise ValueError(f"{names.told(rows[place], columns[place])}: the pair appears twice")
     return Lists(rows, columns, costs, sides, names)
 
 

@@ -29,7 +29,7 @@ class Solution(typing.NamedTuple):
     entries: numpy.ndarray
     """The place of each pair in the caller's lists, or among the entries of the caller's matrix, row by row: int64."""
     cost: int | float | decimal.Decimal
-    """The sum of the costs: an int of whole numbers, the nearest float of floats that aren't, and a Decimal where `decimals` was told and isn't 0."""
+    """The sum of the costs: an int of whole numbers, the nearest float of floats that aren't, and a Decimal where `decimals` was given and isn't 0."""
     bound: int | float | decimal.Decimal
     """What no assignment costs less than (or more than, where the most is wanted): the cost, unless the bids didn't suffice."""
     prices: numpy.ndarray
@@ -46,7 +46,7 @@ class Solution(typing.NamedTuple):
     """The names of each pair's row and column, where the problem was a table that has names, such as a DataFrame; `dict(labels)` gives each its own."""
 
     costs: numpy.ndarray | None = None
-    """The cost of each pair, as the caller gave it, or a Decimal where `decimals` was told and isn't 0."""
+    """The cost of each pair, as the caller gave it, or a Decimal where `decimals` was given and isn't 0."""
     shape: tuple[int, int] | None = None
     """The numbers of rows and of columns."""
     maximize: bool = False

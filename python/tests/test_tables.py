@@ -150,7 +150,7 @@ class Named(Limited):
             (([["a"]], ["b"], [1]), "rows must be a list of names"),
             (([None], ["b"], [1]), "rows: a name is missing"),
             ((["a"], [math.nan], [1]), "columns: a name is missing"),
-            ((["a", "a"], ["b", "b"], [1, 2]), "row 'a', column 'b': the pair stands twice"),
+            ((["a", "a"], ["b", "b"], [1, 2]), "row 'a', column 'b': the pair appears twice"),
             ((["a"], ["b"], ["1"]), "costs must be one list of numbers"),
         ]:
             with self.subTest(given=given), self.assertRaisesRegex(ValueError, told):
@@ -200,7 +200,7 @@ class Graphs(Limited):
             with self.subTest(words), self.assertRaisesRegex(ValueError, told):
                 sigdorf.Edges.of_graph(graph, **words)
         graph.add_edge(1, "b", price=3)
-        with self.assertRaisesRegex(ValueError, "row 'b', column 1: the pair stands twice"):
+        with self.assertRaisesRegex(ValueError, "row 'b', column 1: the pair appears twice"):
             sigdorf.Edges.of_graph(graph, ["a", "b"], "price")
         with self.assertRaisesRegex(ValueError, "a graph of networkx is wanted"):
             sigdorf.Edges.of_graph([[1]])

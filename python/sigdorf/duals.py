@@ -57,7 +57,9 @@ def margins_of(solution, rows, columns, costs):
     # A price may not fall below 0, since what nobody takes has none.
     priced = 0 if has_row_prices(solution) else 1
     least[priced] = numpy.minimum(least[priced], _array(solution.exact_prices()))
-    return least[0][solution.rows] + least[1][solution.columns]
+    pairs = zip(least[0][solution.rows], least[1][solution.columns])
+    # A Fraction that is too great for a float can't be added to infinity.
+    return _array([math.inf if math.inf in pair else sum(pair) for pair in pairs])
 
 
 def _exactly(numbers):

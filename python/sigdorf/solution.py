@@ -44,7 +44,6 @@ class Solution(typing.NamedTuple):
     """What the cost is above the least one at most (below the greatest), exactly: 0, unless the bids didn't suffice."""
     labels: list[tuple] | None = None
     """The names of each pair's row and column, where the problem was a table that has names, such as a DataFrame; `dict(labels)` gives each its own."""
-
     costs: numpy.ndarray | None = None
     """The cost of each pair, as the caller gave it, or a Decimal where `decimals` was given and isn't 0."""
     shape: tuple[int, int] | None = None

@@ -1,7 +1,6 @@
 """Duals, reduced costs and margins in the caller's unit, by what has to hold of them; and results as notebooks show them."""
 import decimal
 import fractions
-import itertools
 import math
 import pickle
 import unittest
@@ -9,7 +8,7 @@ import unittest
 from limited import Limited, numpy, sigdorf
 from test_best import all_of, table_of
 from test_manners import Frame
-from test_restricted import least_of_all
+from test_restricted import assignments_of, least_of_all
 
 
 def entries_of(table):
@@ -50,11 +49,12 @@ class Duals(Limited):
 
     def test_how_far_costs_may_change(self):
         random = numpy.random.default_rng(2)
-        for number in range(150):
+        for number in range(200):
             table, maximize = table_of(random, number), number % 2 == 1
-            if not all_of(table, maximize):
+            capacity = random.integers(1, 3, table.shape[1]) if number % 4 > 1 else None
+            if least_of_all(table, maximize, [], [], capacity) is None:
                 continue
-            solution, sign = sigdorf.solve(table, maximize=maximize), -1 if maximize else 1
+            solution, sign = sigdorf.solve(table, maximize=maximize, capacity=capacity), -1 if maximize else 1
             entries = entries_of(table)
             exact = numpy.full(table.shape, None)
             exact[entries[:2]] = [fractions.Fraction(cost) for cost in entries[2].tolist()]
@@ -64,19 +64,11 @@ class Duals(Limited):
                 changes.setdefault((row, column), -cost)
             for pair, change in changes.items():
                 changed = exact.copy()
-                changed[pair] += 10**30 * sign if math.isinf(change) else change
-                with self.subTest(table=table.tolist(), maximize=maximize, pair=pair):
-                    self.assertEqual(sum(changed[one] for one in pairs), self.least(changed, maximize))
-
-    def least(self, exact, maximize):
-        """The least cost of a table of Fractions, or of None for no entry."""
-        if exact.shape[0] > exact.shape[1]:
-            exact = exact.T
-        costs = [
-            [exact[row, column] for row, column in enumerate(taken)]
-            for taken in itertools.permutations(range(exact.shape[1]), exact.shape[0])
-        ]
-        return (max if maximize else min)(sum(some) for some in costs if None not in some)
+                changed[pair] += 10**330 * sign if abs(change) == math.inf else change
+                with self.subTest(table=table.tolist(), maximize=maximize, capacity=capacity, pair=pair):
+                    sums = [[changed[one] for one in some] for some in assignments_of(table, capacity)]
+                    best = (max if maximize else min)(sum(some) for some in sums if None not in some)
+                    self.assertEqual(sum(changed[one] for one in pairs), best)
 
     def test_units(self):
         """Costs with decimals have duals in the caller's unit, and so have great and small ones."""

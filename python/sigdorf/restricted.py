@@ -133,7 +133,10 @@ class Restricted:
 
 
 def _capacity_of(capacity, sides):
-    """How many rows each column may take, of one number for all or of one of each; more than all rows are as many."""
+    """How many rows each column may take, of one number for all or of one of each.
+
+    More than all rows are one more, so that a place is left over, and the column has no price.
+    """
     if capacity is None:
         return numpy.ones(sides[1], numpy.int64)
     if attempt(len, capacity) is None or isinstance(capacity, (str, bytes)):
@@ -142,4 +145,4 @@ def _capacity_of(capacity, sides):
         each = whole_numbers(capacity, "capacity", 0, MOST_INDEX)
     if len(each) != sides[1]:
         raise ValueError(f"capacity must be a whole number, or one of each of the {sides[1]} columns")
-    return numpy.minimum(each, max(1, sides[0]))
+    return numpy.minimum(each, sides[0] + 1)

@@ -57,10 +57,11 @@ def solve(
         has each forced pair, and no forbidden one. A forced pair is an entry.
     capacity: how many rows a column may take, a whole number or a list with one of each column. Each row gets a column
         then, and a column appears in the solution as often as it is taken.
-    start: an earlier Solution of a problem like this one, from whose duals a run may be shorter: of any costs, also
-        floats. Where it is of no use, as of another number of columns, it is dropped. Or prices from 0 to 2^60, on the
-        scale of whole costs times the smaller side + 1 (of decimals, 10^decimals times that); they may be wrong.
-        :class:`Solver` does this for problems that follow one another.
+    start: an earlier Solution of a problem like this one, of any costs, from whose duals the search begins. That pays
+        where a search is hard (tables of products of 400 rows took a quarter of the time); easy ones take longer by
+        it, up to six times. Where its duals don't fit, as of another number of columns, it is dropped. Or prices from
+        0 to 2^60, on the scale of whole costs times the smaller side + 1 (of decimals, 10^decimals times that); they
+        may be wrong. :class:`Solver` does this for problems that follow one another.
     bids: how many bids a phase may take, from 0 to 2^64 - 1.
     seconds: a limit of time, from 0. Behind it comes what was found by then: no fault, but a solution whose
         `is_optimal` is False. The search is made in slices, each from the beginning again with more bids than the one

@@ -14,8 +14,8 @@ class Solver:
     """Solves problems that are like one another, such as frames, or a table that is changed for a "what if".
 
     Each answer is that of :func:`solve`. The duals of the last one are where the next search starts from, by names
-    where the table has some; else a row or column is the one of the same number. Where they are of no use, as with
-    another number of columns, they are dropped.
+    where the table has some; else a row or column is the one of the same number. Where they don't fit, as with another
+    number of columns, they are dropped. `start` of :func:`solve` says when this takes less time.
 
     >>> solver, table = sigdorf.Solver(), numpy.array([[4.5, 1], [2, 3]])
     >>> solver.solve(table)

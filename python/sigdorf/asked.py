@@ -138,7 +138,7 @@ class Asked:
         if not finer:
             return fast.solution_of(self.plain(), maximize, start, bids)
         found = fast.solution_of(self.plain(numpy.ldexp(costs, finer)), maximize, start, bids)
-        return found and made_smaller(found, finer)
+        return None if found is None else made_smaller(found, finer)
 
     def check(self, solution):
         """Raises Refused where a Solution isn't least."""

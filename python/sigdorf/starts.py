@@ -40,7 +40,8 @@ def _prices_of(solution):
     by_rows = has_row_prices(solution)
     mine, taken = (solution.columns, solution.rows) if by_rows else (solution.rows, solution.columns)
     other = numpy.zeros(solution.shape[1 if by_rows else 0])
-    other[mine] = (1 if solution.maximize else -1) * solution.costs.astype(float) - prices[taken]
+    with numpy.errstate(all="ignore"):
+        other[mine] = (1 if solution.maximize else -1) * solution.costs.astype(float) - prices[taken]
     if not numpy.isfinite(prices).all() or not numpy.isfinite(other).all():
         return None
     found = prices, other - other.min(initial=0)

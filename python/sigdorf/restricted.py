@@ -101,9 +101,10 @@ class Restricted:
             raise self._infeasible(fault.rows, columns, fault.by_columns) from None
         entries, prices = self._some[found.entries], found.prices
         columns = self._asked.lists.columns[entries]
-        if not self._by_columns and prices.size:
+        if not self._by_columns:
             # The last place of a column has the price of all that aren't forced.
-            prices = numpy.where(self._capacity > 0, prices[self._first + self._capacity - 1], 0)
+            last = numpy.append(prices, 0)[self._first + self._capacity - 1]
+            prices = numpy.where(self._capacity > 0, last, 0)
         labels = self._asked.labels(found.rows, columns)
         return found._replace(columns=columns, entries=entries, prices=prices, labels=labels, shape=self._asked.sides)
 

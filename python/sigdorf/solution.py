@@ -99,8 +99,8 @@ class Solution(typing.NamedTuple):
         It is how far the cost of a pair that isn't the solution's may fall (or rise, where the most is wanted and it is
         negative), alone, while this solution stays best.
 
-        >>> print(*sigdorf.solve([[1, 2.5], [1, 4]]).reduced_costs([0, 0, 1, 1], [0, 1, 0, 1], [1, 2.5, 1, 4]))
-        0 0 0 3/2
+        >>> print(*sigdorf.solve([[1, 1, 3.5]]).reduced_costs([0, 0, 0], [0, 1, 2], [1, 1, 3.5]))
+        0 0 5/2
         """
         return reduced_costs_of(self, rows, columns, costs)
 
@@ -110,7 +110,7 @@ class Solution(typing.NamedTuple):
         The arguments are all entries of the problem. It is what the duals show, and may be more in truth: Fractions, or
         infinity where the pair is the only entry of its row and column.
 
-        >>> print(*sigdorf.solve([[1, 9], [9, 1]]).margins([0, 0, 1, 1], [0, 1, 0, 1], [1, 9, 9, 1]))
-        8 8
+        >>> print(*sigdorf.solve([[1, 9]]).margins([0, 0], [0, 1], [1, 9]))
+        8
         """
         return margins_of(self, rows, columns, costs)

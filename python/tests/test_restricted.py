@@ -154,7 +154,10 @@ class Restricted(Limited):
             sigdorf.solve(table, capacity=0)
         with self.assertRaisesRegex(ValueError, "row 0, column 0: the cost 1.5 of entry 0 has more than 0 decimals"):
             sigdorf.solve([0], [0], [1.5], decimals=0, capacity=1)
-        self.assertEqual(sigdorf.solve(numpy.zeros((0, 3)), capacity=1).cost, 0)
+        for capacity in (0, 1, [0, 2, 0]):
+            nothing = sigdorf.solve(numpy.zeros((0, 3)), capacity=capacity)
+            self.assertEqual((nothing.cost, nothing.prices.tolist()), (0, [0, 0, 0]))
+            sigdorf.check(nothing, numpy.zeros((0, 3)), capacity=capacity)
         self.assertEqual(sigdorf.solve([[0.5, 0.25], [0.5, 0.75]], decimals=2, capacity=2).columns.tolist(), [1, 0])
 
     def test_limits_of_the_search(self):

@@ -42,9 +42,9 @@ def _prices_of(solution):
     other = numpy.zeros(solution.shape[1 if by_rows else 0])
     with numpy.errstate(all="ignore"):
         other[mine] = (1 if solution.maximize else -1) * solution.costs.astype(float) - prices[taken]
-    if not numpy.isfinite(prices).all() or not numpy.isfinite(other).all():
+        found = prices, other - other.min(initial=0)
+    if not all(numpy.isfinite(side).all() for side in found):
         return None
-    found = prices, other - other.min(initial=0)
     return found if by_rows else found[::-1]
 
 

@@ -1,6 +1,7 @@
 """Tables as pandas has them: missing cells, nullable types; and long tables and graphs, by Edges."""
 import math
 import unittest
+import warnings
 
 from limited import Limited, numpy, scipy, sigdorf
 from test_manners import Frame
@@ -181,7 +182,10 @@ class Graphs(Limited):
             found = sigdorf.solve(sigdorf.Edges.of_graph(graph))
             self.assertTrue(all(row.startswith("row") and graph.has_edge(row, column) for row, column in found.labels))
             if scipy:
-                wanted = networkx.bipartite.minimum_weight_full_matching(graph, [f"row {row}" for row in range(rows)])
+                with warnings.catch_warnings():
+                    # Of networkx's own use of SciPy.
+                    warnings.simplefilter("ignore")
+                    wanted = networkx.bipartite.minimum_weight_full_matching(graph, [f"row {row}" for row in range(rows)])
                 self.assertEqual(2 * found.cost, sum(graph.edges[pair]["weight"] for pair in wanted.items()))
 
     def test_sides(self):

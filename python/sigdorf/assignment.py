@@ -32,7 +32,7 @@ def solve(
     seconds: float | None = None,
     progress: typing.Callable[[typing.Any, typing.Any], typing.Any] | None = None,
 ) -> Solution:
-    """An assignment and a bound: of least cost where `is_optimal` says so, and else the best that the bids or the time sufficed for.
+    """An assignment of least cost where `is_optimal` says so, else the best that bids or time sufficed for, and a bound.
 
     Look at `is_optimal` of the :class:`Solution`: where it is False, a limit ended the search, and another assignment
     may cost less, down to `bound`. Where it is True, the prices of the solution show that none does.
@@ -106,7 +106,7 @@ def check(
     forbidden: Pairs | None = None,
     capacity: int | ArrayLike | None = None,
 ) -> None:
-    """Raises :class:`Refused` where a solution isn't an assignment of this problem than which none costs less, as its prices show.
+    """Raises :class:`Refused` where a solution isn't an assignment than which none costs less, as its prices show.
 
     The other arguments are those of :func:`solve`, and a ValueError says which one is at fault. Whoever found the
     solution is not trusted: type, length and range of each of its parts are looked at, and each number exactly; nothing

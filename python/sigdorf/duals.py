@@ -9,7 +9,7 @@ from .faults import Unsettled
 
 
 def duals_of(solution):
-    """The duals of all rows and of all columns, Fractions in object arrays. Raises Unsettled of what a limit has ended."""
+    """The duals of all rows and of all columns: Fractions in object arrays. Raises Unsettled where a limit was met."""
     if solution.costs is None or solution.shape is None:
         raise ValueError("the solution has no costs of its pairs, or no shape")
     if not solution.is_optimal:

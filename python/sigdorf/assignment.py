@@ -32,7 +32,7 @@ def solve(
     seconds: float | None = None,
     progress: typing.Callable[[typing.Any, typing.Any], typing.Any] | None = None,
 ) -> Solution:
-    """An assignment of least cost where `is_optimal` says so, else the best that bids or time sufficed for, and a bound.
+    """An assignment of least cost where `is_optimal` says so, else the best that bids or time allowed, and a bound.
 
     Look at `is_optimal` of the :class:`Solution`: where it is False, a limit ended the search, and another assignment
     may cost less, down to `bound`. Where it is True, the prices of the solution show that none does.

@@ -5,9 +5,12 @@
     linear_sum_assignment(cost_matrix)              as SciPy's call of this name, dense or sparse
     min_weight_full_bipartite_matching(matrix)      as SciPy's call of this name
     match(costs, limit)                             the best pairs of at most a limit; whoever has none stays free
-    lapjv(cost, cost_limit=limit)                   the same as the package `lap` has it
+    max_cardinality_match(costs)                    as many pairs as possible, and of all such choices the cheapest
+    lapjv(cost, cost_limit=limit)                   the same as `lap` has it; also lapjvx, lapjvxa, lapjvc and lapmod
     solve_many(problems, threads)                   solves many problems, over threads
+    Solver().solve(..)                              problems one after another, each from the duals of the one before
     certify(rows, columns, table)                   anybody's assignment, with prices that show it to be the least, or how far it is off
+    Edges(rows, columns, costs)                     pairs by names, of a long table or a graph, in place of a table
     k_best(table, k)                                the k best assignments, the best first
 
 Costs count exactly as they stand, floats too (docs/EXACT.md). Where there is no full assignment, each raises Infeasible, which names the rows
@@ -23,30 +26,41 @@ del numpy
 
 from .assignment import check, solve
 from .best import Ranked, k_best
+from .cardinality import max_cardinality_match
 from .certified import certify
+from .edges import Edges
 from .faults import Infeasible, Mistyped, Refused, Unsettled
-from .gated import Match, lapjv, match
+from .gated import Match, match
+from .lap_calls import lapjv, lapjvc, lapjvx, lapjvxa, lapmod
 from .library import USUAL_BIDS
 from .many import solve_many
 from .scipy_calls import linear_sum_assignment, min_weight_full_bipartite_matching
 from .solution import Solution
+from .solver import Solver
 
 __version__ = "1.1"
 __all__ = [
+    "Edges",
     "Infeasible",
     "Match",
     "Mistyped",
     "Ranked",
     "Refused",
     "Solution",
+    "Solver",
     "USUAL_BIDS",
     "Unsettled",
     "certify",
     "check",
     "k_best",
     "lapjv",
+    "lapjvc",
+    "lapjvx",
+    "lapjvxa",
+    "lapmod",
     "linear_sum_assignment",
     "match",
+    "max_cardinality_match",
     "min_weight_full_bipartite_matching",
     "solve",
     "solve_many",

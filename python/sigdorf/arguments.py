@@ -4,6 +4,8 @@ import operator
 
 import numpy
 
+from .nullable import of_nullable
+
 # The limits of a problem: of its smaller side, of its larger one, and of its entries.
 MOST_PERSONS, MOST_OBJECTS, MOST_ENTRIES = 10_000, 20_000, 33_554_432
 MOST_BIDS = 2**64 - 1
@@ -54,7 +56,7 @@ def array_of(value, name, most):
     array = None if attempt(_holds_masked, value) else attempt(numpy.asanyarray, value)
     if array is None or isinstance(array, numpy.ma.MaskedArray):
         raise ValueError(f"{name} must be an array, or what numpy makes one of, with nothing masked: fill what is masked, or leave it out")
-    return numpy.asarray(array)
+    return of_nullable(value, numpy.asarray(array))
 
 
 def whole_numbers(value, name, least, most):

@@ -1,14 +1,21 @@
 """What a caller asks for, made plain, and the one road to an answer."""
+import numpy
+
 from . import fast
 from .arguments import HIGHEST_START, INT64, MOST_BIDS, number, truth, whole_numbers
+from .claims import check_claim
 from .costs import MOST_DECIMALS
+from .edges import Edges
 from .faults import Unsettled
 from .library import START_FAULTS, USUAL_BIDS
-from .matrices import is_sparse, lists_of_matrix, numbers_of
+from .matrices import is_sparse, lists_of_matrix, numbers_of, without_missing
 from .problem import Problem, lists_of
+from .starts import finer_by, in_whole_units, kept_of, made_smaller
 from .tables import NUMBERS, named
 
 NO_ASSIGNMENT = "no full assignment exists"
+# What missing= may say of cells without a number.
+FORBIDDEN = "forbidden"
 
 
 class Asked:
@@ -17,18 +24,24 @@ class Asked:
     `table` is an array, or None where there are lists alone. An array of the caller's is looked at closer where the extension doesn't take it.
     """
 
-    def __init__(self, rows, columns=None, costs=None, shape=None, maximize=False, decimals=None):
+    def __init__(self, rows, columns=None, costs=None, shape=None, maximize=False, decimals=None, missing=None):
         self.maximize = truth(maximize, "maximize")
         self.decimals = None if decimals is None else number(decimals, "decimals", 0, MOST_DECIMALS)
         self.names, self.table, self._lists, self._problem = NUMBERS, None, None, None
+        if missing is not None and not (isinstance(missing, str) and missing == FORBIDDEN):
+            raise ValueError(f"missing must be {FORBIDDEN!r}, or left out")
+        if missing and (columns is not None or costs is not None or isinstance(rows, Edges)):
+            raise ValueError("missing is of tables alone: leave out the entries that are missing")
         if columns is not None or costs is not None:
             self._lists = lists_of(rows, columns, costs, shape)
         elif shape is not None:
             raise ValueError("a table has a shape of its own")
-        elif type(rows) is fast.ARRAY and decimals is None:
+        elif isinstance(rows, Edges):
+            self._lists, self.names = rows.lists, rows.lists.names
+        elif type(rows) is fast.ARRAY and decimals is None and missing is None:
             self.table = rows
         else:
-            self._take_table(rows)
+            self._take_table(rows, missing)
 
     @classmethod
     def of_lists(cls, lists, maximize, decimals=None):
@@ -37,8 +50,10 @@ class Asked:
         asked.maximize, asked.decimals, asked.names, asked.table, asked._lists, asked._problem = maximize, decimals, NUMBERS, None, lists, None
         return asked
 
-    def _take_table(self, table):
+    def _take_table(self, table, missing):
         values, self.names = named(table)
+        if missing:
+            values = without_missing(values, self.maximize)
         if self.decimals is not None or is_sparse(values):
             self._lists = lists_of_matrix(values, self.maximize, self.names)
         else:
@@ -83,9 +98,15 @@ class Asked:
         return named and list(zip(*named))
 
     def start_of(self, start):
-        """The prices of a start, or None. What the library takes for none, an empty list, is a fault."""
+        """The prices of a start, or None: whole numbers, or floats in the unit of the costs.
+
+        What the library takes for none, an empty list, is a fault.
+        """
         if start is None:
             return None
+        kept = kept_of(start)
+        if kept is not None:
+            return kept.prices(self.sides[0] > self.sides[1], max(self.sides), self.names, self.maximize)
         start = whole_numbers(start, "start", *INT64)
         if len(start) != max(self.sides):
             raise ValueError(START_FAULTS[2])
@@ -96,14 +117,32 @@ class Asked:
 
     def solution(self, start, bids, words=NO_ASSIGNMENT):
         """The Solution. These words begin an Infeasible."""
-        # Decimals are turned already.
-        found = fast.solution_of(self.plain(), self.maximize and self.decimals is None, start, bids)
+        found = self._by_extension(start, bids)
         if found is None:
             found = self.problem.solution(start, bids, words)
         elif self.decimals is not None:
             found = self.problem.solution_of_units(found)
         labels = self.labels(found.rows, found.columns)
         return found if labels is None else found._replace(labels=labels)
+
+    def _by_extension(self, start, bids):
+        """The Solution, of decimals in whole units, or None."""
+        # Decimals are turned already.
+        maximize = self.maximize and self.decimals is None
+        if start is None or start.dtype.kind != "f":
+            return fast.solution_of(self.plain(), maximize, start, bids)
+        factor = (min(self.sides) + 1) * (1 if self.decimals is None else self.problem.decimal_scale)
+        costs = fast.plain(self.costs)
+        finer = finer_by(costs) if self.decimals is None and costs.dtype.kind == "f" else 0
+        start = in_whole_units(start, factor, finer)
+        if not finer:
+            return fast.solution_of(self.plain(), maximize, start, bids)
+        found = fast.solution_of(self.plain(numpy.ldexp(costs, finer)), maximize, start, bids)
+        return None if found is None else made_smaller(found, finer)
+
+    def check(self, solution):
+        """Raises Refused where a Solution isn't least."""
+        check_claim(self.problem, solution)
 
     def pairs(self, bids, words, asks=True):
         """Rows and columns of the least pairs, and Unsettled where the bids didn't suffice for them. `asks` says whether the extension wasn't asked before."""

@@ -5,11 +5,14 @@ import typing
 
 from numpy.typing import ArrayLike
 
-from .asked import Asked, bids_of
-from .claims import check_claim
+from .asked import bids_of
 from .library import USUAL_BIDS
+from .restricted import asked_of
 from .slices import Slices, progress_of, seconds_of, solve_in_slices
 from .solution import Solution
+
+# Rows and columns by numbers, or by names where the table has them.
+Pairs = typing.Iterable[tuple[typing.Any, typing.Any]]
 
 
 def solve(
@@ -20,48 +23,68 @@ def solve(
     *,
     maximize: bool = False,
     decimals: int | None = None,
-    start: ArrayLike | None = None,
+    missing: typing.Literal["forbidden"] | None = None,
+    forced: Pairs | None = None,
+    forbidden: Pairs | None = None,
+    capacity: int | ArrayLike | None = None,
+    start: Solution | ArrayLike | None = None,
     bids: int = USUAL_BIDS,
     seconds: float | None = None,
     progress: typing.Callable[[typing.Any, typing.Any], typing.Any] | None = None,
 ) -> Solution:
-    """An assignment and a bound: of least cost where `is_optimal` says so, and else the best that the bids or the time sufficed for.
+    """An assignment of least cost where `is_optimal` says so, else the best that bids or time allowed, and a bound.
 
-    Look at `is_optimal` of the :class:`Solution`: where it is False, a limit ended the search, and another assignment may cost less, down to
-    `bound`. Where it is True, the prices of the solution show that none does.
+    Look at `is_optimal` of the :class:`Solution`: where it is False, a limit ended the search, and another assignment
+    may cost less, down to `bound`. Where it is True, the prices of the solution show that none does.
 
-    Entry k says that row rows[k] may have column columns[k] at costs[k]. Each row gets a column, or where there are more rows than columns
-    each column a row, none twice. The search of a first assignment takes O(rows * entries) time at most, mostly far less. The solver is the
-    direct one, as the program's with --direct; the numbers of rows and columns may be unequal.
+    Entry k says that row rows[k] may have column columns[k] at costs[k]. Each row gets a column, or where there are
+    more rows than columns each column a row, none twice. The search of a first assignment takes O(rows * entries) time
+    at most, mostly far less. The solver is the direct one, as the program's with --direct; the numbers of rows and
+    columns may be unequal.
 
     rows, columns: int arrays of one length, from 0; a pair may stand twice.
-    costs: int or float array of the same length, of at most 64 bits a number. Each counts exactly as it stands: no assignment has a smaller
-        sum, of all digits that these numbers have. Costs that are no whole numbers to 10^9 take a few searches in place of one.
-    shape: numbers of rows and of columns; where it is left out, one more than the greatest of each. 10,000 on the smaller side, 20,000 on the
-        larger one, 33,554,432 entries.
+    costs: int or float array of the same length, of at most 64 bits a number. Each counts exactly as it is: no
+        assignment has a smaller sum, of all digits that these numbers have. Costs that are no whole numbers to 10^9
+        take a few searches in place of one.
+    shape: numbers of rows and of columns; where it is left out, one more than the greatest of each. 10,000 on the
+        smaller side, 20,000 on the larger one, 33,554,432 entries.
     maximize: whether the most is wanted.
-    decimals: 0 to 9, for floats that stand for decimal numbers: what counts is costs * 10^decimals, which must be whole numbers to 10^9 in
-        magnitude, and a float must be the one nearest to such a number, of its own type.
-    start: the prices of an earlier solution of as many rows and columns, from which a run may be shorter, on the scale of whole costs times
-        the smaller side + 1 (of decimals, 10^decimals times that). They may be wrong: any from 0 to 2^60.
+    decimals: 0 to 9, for floats that mean decimal numbers: what counts is costs * 10^decimals, which must be whole
+        numbers to 10^9 in magnitude, and a float must be the one nearest to such a number, of its own type.
+    missing: "forbidden" makes no entries of a table's cells that are NaN, or missing; where it is left out, such cells
+        are a fault.
+    forced, forbidden: lists of pairs (row, column), by numbers, or by names where the table has them: the assignment
+        has each forced pair, and no forbidden one. A forced pair is an entry.
+    capacity: how many rows a column may take, a whole number or a list with one of each column. Each row gets a column
+        then, and a column appears in the solution as often as it is taken.
+    start: an earlier Solution of a problem like this one, of any costs, from whose duals the search begins. That pays
+        where a search is hard (tables of products of 400 rows took a quarter of the time); easy ones take longer by
+        it, up to six times. Where its duals don't fit, as of another number of columns, it is dropped. Or prices from
+        0 to 2^60, on the scale of whole costs times the smaller side + 1 (of decimals, 10^decimals times that); they
+        may be wrong. :class:`Solver` does this for problems that follow one another.
     bids: how many bids a phase may take, from 0 to 2^64 - 1.
-    seconds: a limit of time, from 0. Behind it comes what was found by then: no fault, but a solution whose `is_optimal` is False. The search is
-        made in slices, each from the beginning again with more bids than the one before. The first answer takes as long as it takes to read
-        the entries and to find any assignment, whatever the limit. docs/PYTHON.md says how late it may be.
+    seconds: a limit of time, from 0. Behind it comes what was found by then: no fault, but a solution whose
+        `is_optimal` is False. The search is made in slices, each from the beginning again with more bids than the one
+        before. The first answer takes as long as it takes to read the entries and to find any assignment, whatever the
+        limit. docs/PYTHON.md says how late it may be.
     progress: is called after each slice with the bound and the cost of the best so far, as the solution will have them.
 
-    In place of the lists there may be one table: a matrix, dense (what is infinite is no entry) or sparse (what isn't stored is none), or a
-    table with `index`, `columns` and `to_numpy`, such as pandas' DataFrame, whose names are in the solution's `labels` and in every fault.
+    In place of the lists there may be one table: a matrix, dense (what is infinite is no entry) or sparse (what isn't
+    stored is none), or a table with `index`, `columns` and `to_numpy`, such as pandas' DataFrame, or :class:`Edges`,
+    whose names are in the solution's `labels` and in every fault.
 
-    Raises Infeasible where there is no full assignment, ValueError where an argument is at fault (a masked array among them), and MemoryError.
-    KeyboardInterrupt gets away from a long call at once; the search itself runs on to its end in a thread of its own, unseen.
+    Raises Infeasible where there is no full assignment, ValueError where an argument is at fault (a masked array among
+    them), and MemoryError. KeyboardInterrupt gets away from a long call at once; the search itself runs on to its end
+    in a thread of its own, unseen.
 
     >>> solution = sigdorf.solve([0, 0, 1, 1], [0, 1, 0, 1], [1, 2.5, 1, 4])
     >>> solution.rows.tolist(), solution.columns.tolist(), solution.cost
     ([0, 1], [1, 0], 3.5)
+    >>> sigdorf.solve([[1, 2], [1, 4], [1, 3]], forced=[(0, 1)], capacity=2)
+    Solution(cost=4, pairs={0: 1, 1: 0, 2: 0})
     """
     began = time.monotonic()
-    asked = Asked(rows, columns, costs, shape, maximize, decimals)
+    asked = asked_of(rows, columns, costs, shape, maximize, decimals, missing, forced, forbidden, capacity)
     start, bids = asked.start_of(start), bids_of(bids)
     if seconds is None and progress is None:
         return asked.solution(start, bids)
@@ -78,12 +101,17 @@ def check(
     *,
     maximize: bool = False,
     decimals: int | None = None,
+    missing: typing.Literal["forbidden"] | None = None,
+    forced: Pairs | None = None,
+    forbidden: Pairs | None = None,
+    capacity: int | ArrayLike | None = None,
 ) -> None:
-    """Raises :class:`Refused` where a solution isn't an assignment of this problem than which none costs less, as its prices show.
+    """Raises :class:`Refused` where a solution isn't an assignment than which none costs less, as its prices show.
 
-    The other arguments are those of :func:`solve`, and a ValueError says which one is at fault. Whoever found the solution is not trusted: type,
-    length and range of each of its parts are looked at, and each number exactly; nothing of the solver is used. What a limit has ended
-    (`is_optimal` is False) is refused. O(entries) time. An assignment without prices is what :func:`certify` takes.
+    The other arguments are those of :func:`solve`, and a ValueError says which one is at fault. Whoever found the
+    solution is not trusted: type, length and range of each of its parts are looked at, and each number exactly; nothing
+    of the solver is used. What a limit has ended (`is_optimal` is False) is refused. O(entries) time. An assignment
+    without prices is what :func:`certify` takes.
 
     >>> table = [[1, 2], [1, 4]]
     >>> sigdorf.check(sigdorf.solve(table), table)
@@ -92,4 +120,4 @@ def check(
         ...
     sigdorf.faults.Refused: number 0 has a better entry at these prices
     """
-    check_claim(Asked(rows, columns, costs, shape, maximize, decimals).problem, solution)
+    asked_of(rows, columns, costs, shape, maximize, decimals, missing, forced, forbidden, capacity).check(solution)

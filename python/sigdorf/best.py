@@ -10,11 +10,12 @@ from .arguments import number
 from .asked import NO_ASSIGNMENT, Asked, bids_of
 from .faults import Infeasible, Unsettled
 from .library import USUAL_BIDS
-from .shown import equal, hashed, shown_pairs, unequal
+from .shown import compared_and_shown, shown_pairs
 
 MOST_BEST = 10**6
 
 
+@compared_and_shown
 class Ranked(typing.NamedTuple):
     """One of the best assignments.
 
@@ -36,20 +37,27 @@ class Ranked(typing.NamedTuple):
     def __repr__(self):
         return f"Ranked(cost={self.cost!r}, pairs={shown_pairs(self)})"
 
-    __eq__, __ne__, __hash__ = equal, unequal, hashed
 
-
-def k_best(table: typing.Any, k: int, *, maximize: bool = False, bids: int = USUAL_BIDS) -> list[Ranked]:
+def k_best(
+    table: typing.Any,
+    k: int,
+    *,
+    maximize: bool = False,
+    missing: typing.Literal["forbidden"] | None = None,
+    bids: int = USUAL_BIDS,
+) -> list[Ranked]:
     """The k best full assignments of a table, the best first: each costs least of all those that aren't before it. There may be fewer.
 
     table: as :func:`solve` takes it: a matrix, dense or sparse, or a table with names.
     k: how many, from 1.
-    `maximize` and `bids` are those of :func:`solve`.
+    `maximize`, `missing` and `bids` are those of :func:`solve`.
 
-    Sums are exact, of floats too. Of several that cost the same the first rows have the lowest columns, as everywhere here. The method is K. G. Murty's
-    (Operations Research 16, 1968): what is left is parted by the pairs of each answer, and each part is solved. So it takes k * rows searches at most.
+    Sums are exact, of floats too. Of several that cost the same the first rows have the lowest columns, as everywhere
+    here. The method is K. G. Murty's (Operations Research 16, 1968): what is left is parted by the pairs of each
+    answer, and each part is solved. So it takes k * rows searches at most.
 
-    Raises Infeasible where there is no full assignment, Unsettled where a limit ended a search, and ValueError where an argument is at fault.
+    Raises Infeasible where there is no full assignment, Unsettled where a limit ended a search, and ValueError where an
+    argument is at fault.
 
     >>> for found in sigdorf.k_best([[1, 2, 4], [1, 4, 9]], 3):
     ...     print(found)
@@ -57,9 +65,9 @@ def k_best(table: typing.Any, k: int, *, maximize: bool = False, bids: int = USU
     Ranked(cost=5, pairs={0: 0, 1: 1})
     Ranked(cost=5, pairs={0: 2, 1: 0})
     """
-    asked, k, bids = Asked(table, maximize=maximize), number(k, "k", 1, MOST_BEST), bids_of(bids)
+    asked, k, bids = Asked(table, maximize=maximize, missing=missing), number(k, "k", 1, MOST_BEST), bids_of(bids)
     parts = [Part(asked, numpy.ones(len(asked.lists.costs), bool), 0, bids)]
-    found = []
+    found: list[Ranked] = []
     while parts and len(found) < k:
         part = heapq.heappop(parts)
         found.append(part.ranked())

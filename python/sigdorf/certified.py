@@ -5,22 +5,30 @@ import numpy
 from numpy.typing import ArrayLike
 
 from .arguments import INT64, whole_numbers
-from .asked import NO_ASSIGNMENT, Asked, bids_of
-from .claims import check_claim
+from .asked import Asked, bids_of
 from .faults import Refused, Unsettled
 from .library import USUAL_BIDS
 from .solution import Solution
 
 
-def certify(rows: ArrayLike, columns: ArrayLike, table: typing.Any, *, maximize: bool = False, bids: int = USUAL_BIDS) -> Solution:
+def certify(
+    rows: ArrayLike,
+    columns: ArrayLike,
+    table: typing.Any,
+    *,
+    maximize: bool = False,
+    missing: typing.Literal["forbidden"] | None = None,
+    bids: int = USUAL_BIDS,
+) -> Solution:
     """The :class:`Solution` of an assignment, whoever found it, with prices that show that none costs less; it passes :func:`check`.
 
     rows, columns: the pairs, in any order: whole numbers from 0. SciPy's linear_sum_assignment answers such two.
     table: as :func:`solve` takes it: a matrix, dense or sparse, or a table with names.
-    `maximize` and `bids` are those of :func:`solve`.
+    `maximize`, `missing` and `bids` are those of :func:`solve`.
 
-    Raises :class:`Refused` where these pairs are no full assignment of the table, or where one costs less, which the message tells, exactly compared.
-    Raises Infeasible where there is no full assignment, Unsettled where a limit ended the search, and ValueError where an argument is at fault.
+    Raises :class:`Refused` where these pairs are no full assignment of the table, or where one costs less, which the
+    message tells, exactly compared. Raises Infeasible where there is no full assignment, Unsettled where a limit ended
+    the search, and ValueError where an argument is at fault.
 
     >>> sigdorf.certify([0, 1], [1, 0], [[1, 2], [1, 4]])
     Solution(cost=3, pairs={0: 1, 1: 0})
@@ -29,26 +37,26 @@ def certify(rows: ArrayLike, columns: ArrayLike, table: typing.Any, *, maximize:
         ...
     sigdorf.faults.Refused: the assignment costs 5, and the least one costs 3
     """
-    asked, bids = Asked(table, maximize=maximize), bids_of(bids)
-    rows, columns = (whole_numbers(side, name, *INT64) for side, name in ((rows, "rows"), (columns, "columns")))
-    if len(rows) != len(columns):
+    asked, bids = Asked(table, maximize=maximize, missing=missing), bids_of(bids)
+    sides = [whole_numbers(side, name, *INT64) for side, name in ((rows, "rows"), (columns, "columns"))]
+    if len(sides[0]) != len(sides[1]):
         raise ValueError("rows and columns must be as many")
-    order = numpy.argsort(rows, kind="stable")
-    rows, columns = rows[order], columns[order]
-    entries = _entries_of(asked.lists, rows, columns)
-    least = asked.solution(None, bids, NO_ASSIGNMENT)
+    pairs = [side[numpy.argsort(sides[0], kind="stable")] for side in sides]
+    entries = _entries_of(asked.lists, *pairs)
+    least = asked.solution(None, bids)
     if least.gap:
         raise Unsettled(least)
     cost = asked.problem.costs.total(entries)
     if cost != least.exact_cost:
         raise Refused(_told(asked, cost, least))
-    claim = least._replace(rows=rows, columns=columns, entries=entries, labels=asked.labels(rows, columns))
-    check_claim(asked.problem, claim)
+    labels, costs = asked.labels(*pairs), asked.problem.costs.at(entries)
+    claim = least._replace(rows=pairs[0], columns=pairs[1], entries=entries, labels=labels, costs=costs)
+    asked.check(claim)
     return claim
 
 
 def _entries_of(lists, rows, columns):
-    """The places of these pairs among the entries of a table, which rise by rows and columns."""
+    """The places of these pairs among the entries of a table, where each stands once."""
     for name, given, side in (("row", rows, lists.sides[0]), ("column", columns, lists.sides[1])):
         outside = (given < 0) | (given >= side)
         if outside.any():
@@ -59,7 +67,8 @@ def _entries_of(lists, rows, columns):
     if len(rows) != min(lists.sides):
         raise Refused(f"{len(rows)} pairs are no full assignment, which has {min(lists.sides)}")
     places, wanted = lists.rows * lists.sides[1] + lists.columns, rows * lists.sides[1] + columns
-    entries = numpy.searchsorted(places, wanted)
+    order = numpy.argsort(places, kind="stable")
+    entries = numpy.append(order, len(places))[numpy.searchsorted(places, wanted, sorter=order)]
     is_entry = numpy.append(places, -1)[entries] == wanted
     if not is_entry.all():
         place = is_entry.argmin()

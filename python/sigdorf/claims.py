@@ -9,7 +9,7 @@ import fractions
 import numpy
 
 from .amounts import FINEST, in_units, unit_of
-from .arguments import INT64, attempt, is_whole, whole_numbers
+from .arguments import INT64, array_of, attempt, is_whole, whole_numbers
 from .faults import Refused
 from .library import CLAIM_FAULTS, OTHER_SIZE, check_arcs
 from .solution import Solution
@@ -19,40 +19,63 @@ from .whole import whole_prices
 MOST_UNIT, MOST_BITS = 2 * FINEST, 4 * FINEST
 # So many entries are looked at at a time, to take little memory.
 BLOCK = 1 << 20
+NO_ENTRY = "the solution names an entry that the problem doesn't have"
 # Above what floats below the least normal one may be off by.
 LEAST = 1e-322
 
 
 def check_claim(problem, solution):
     """Raises Refused, with a sentence, where the solution isn't least."""
-    if not isinstance(solution, Solution):
-        raise Refused(f"a Solution is wanted, and not a {type(solution).__name__}")
-    choice = _choice_of(problem, solution)
+    look_at_kind(solution)
+    entries = _entries_of(problem, solution)
+    choice = entries[numpy.argsort(problem.arcs["person"][entries], kind="stable")]
     cost = problem.costs.total(choice)
     if _amount(solution.cost) != problem.costs.shown(cost):
         raise Refused(CLAIM_FAULTS[4])
     if problem.persons == 0:
-        _look_at_free_prices(_whole_list(solution.prices, problem.objects))
+        _look_at_free_prices(whole_list(solution.prices, problem.objects))
     elif problem.has_whole_costs:
-        prices = _listed(solution.prices, "prices", INT64, problem.objects, CLAIM_FAULTS[2])
+        prices = listed_of(solution.prices, "prices", INT64, problem.objects, CLAIM_FAULTS[2])
         check_arcs(problem.persons, problem.objects, problem.arcs, choice, prices, int(problem.arcs["cost"][choice].sum()))
     else:
         _check_exactly(problem, solution, choice)
     _look_at_amounts(problem, solution, cost)
-    labels = problem.labels(solution.rows, solution.columns)
+    _look_at_costs(problem, entries, solution)
+    look_at_names(problem.labels(solution.rows, solution.columns), problem.lists.sides, solution)
+
+
+def look_at_kind(solution):
+    """Refuses what is no Solution."""
+    if not isinstance(solution, Solution):
+        raise Refused(f"a Solution is wanted, and not a {type(solution).__name__}")
+
+
+def look_at_names(labels, sides, solution):
+    """Refuses a solution with other labels or of another shape."""
     if type(solution.labels) is not type(labels) or attempt(lambda given: given == labels, solution.labels) is not True:
         raise Refused("the labels of the solution are not those of its rows and columns")
+    if solution.shape is not None and attempt(lambda given: tuple(given) == sides, solution.shape) is not True:
+        raise Refused("the shape of the solution is not that of the problem")
 
 
-def _choice_of(problem, solution):
-    """The place of an arc of each person, of a solution whose pairs are entries of the problem."""
-    fault = "the solution names an entry that the problem doesn't have"
-    entries = _listed(solution.entries, "entries", (0, len(problem.arcs) - 1), problem.persons, fault)
+def _look_at_costs(problem, entries, solution):
+    """Refuses a solution with other costs of its pairs, or of the other way."""
+    if solution.costs is not None:
+        costs = attempt(lambda given: array_of(given, "costs", len(entries)), solution.costs)
+        if costs is None or costs.shape != entries.shape or costs.tolist() != problem.costs.at(entries).tolist():
+            raise Refused("the costs of the solution are not those of its entries")
+    if solution.maximize is not (problem.sign < 0):
+        raise Refused("the solution doesn't say whether the most is wanted")
+
+
+def _entries_of(problem, solution):
+    """The places of the entries of a solution, whose pairs are entries of the problem."""
+    entries = listed_of(solution.entries, "entries", (0, len(problem.arcs) - 1), problem.persons, NO_ENTRY)
     for name, side in (("rows", problem.lists.rows), ("columns", problem.lists.columns)):
-        places = _listed(getattr(solution, name), name, INT64, problem.persons, OTHER_SIZE)
+        places = listed_of(getattr(solution, name), name, INT64, problem.persons, OTHER_SIZE)
         if not numpy.array_equal(places, side[entries]):
             raise Refused("the rows and columns of the solution are not those of its entries")
-    return entries[numpy.argsort(problem.arcs["person"][entries], kind="stable")]
+    return entries
 
 
 def _look_at_amounts(problem, solution, cost):
@@ -82,7 +105,7 @@ def _check_exactly(problem, solution, choice):
     if len(numpy.unique(objects[choice])) != problem.persons:
         raise Refused("a number is taken twice")
     unit = _unit_of(solution.scale, problem.persons + 1)
-    prices = whole_prices(problem.persons, _whole_list(solution.prices, problem.objects), objects[choice])
+    prices = whole_prices(problem.persons, whole_list(solution.prices, problem.objects), objects[choice])
     if problem.objects > problem.persons:
         if min(prices) < 0:
             raise Refused(CLAIM_FAULTS[2])
@@ -148,10 +171,10 @@ def _unit_of(scale, step):
     return int(times).bit_length() - 1
 
 
-def _whole_list(value, count):
+def whole_list(value, count):
     """One list of so many whole numbers of any length, as an object array of Python's."""
     if not (isinstance(value, (list, tuple)) or isinstance(value, numpy.ndarray) and value.dtype == object and value.ndim == 1):
-        return _listed(value, "prices", INT64, count, CLAIM_FAULTS[2]).astype(object)
+        return listed_of(value, "prices", INT64, count, CLAIM_FAULTS[2]).astype(object)
     if len(value) != count:
         raise Refused(OTHER_SIZE)
     if not all(map(is_whole, value)):
@@ -163,7 +186,7 @@ def _whole_list(value, count):
     return listed
 
 
-def _listed(value, name, limits, count, fault):
+def listed_of(value, name, limits, count, fault):
     """One list of whole numbers of a solution, so many of them; what is beyond the limits is refused by this fault."""
     try:
         listed = whole_numbers(value, f"{name} of the solution", *INT64)

@@ -78,6 +78,13 @@ class DecimalCosts:
     def __init__(self, whole, decimals, sign):
         self.whole, self.decimals, self._sign = sign * whole, decimals, sign
 
+    def at(self, places):
+        """The caller's costs at these places: Decimals in an object array, or whole numbers."""
+        units = self._sign * self.whole[places]
+        costs = numpy.empty(len(units), object if self.decimals else numpy.int64)
+        costs[:] = [self._shown(number) for number in units.tolist()]
+        return costs
+
     def total(self, places):
         """The sum of the caller's costs at these places: a Fraction."""
         return self.amount(int(self.whole[places].sum()))
@@ -88,10 +95,12 @@ class DecimalCosts:
 
     def shown(self, amount):
         """A sum as solutions show it: exact, whatever precision the caller's decimals have."""
-        units = int(amount * 10**self.decimals)
-        return decimal.Decimal(f"{units}e-{self.decimals}") if self.decimals else units
+        return self._shown(int(amount * 10**self.decimals))
 
     shown_bound = shown
+
+    def _shown(self, units):
+        return decimal.Decimal(f"{units}e-{self.decimals}") if self.decimals else units
 
 
 def common_twos(numbers):

@@ -95,19 +95,20 @@ def _made(problem, maximize, parts):
     """The Solution of what the extension has found."""
     pairs, prices, unit, total, total_unit, shown, gap, gap_unit = parts
     rows, columns, places = pairs
+    is_list = type(problem) is tuple
+    costs, sides = (problem[2][places], problem[3:]) if is_list else (problem[rows, columns], problem.shape)
     if total is None:
-        exact = exact_sum(problem[2][places] if type(problem) is tuple else problem[rows, columns])
+        exact = exact_sum(costs)
     else:
         exact = fraction_of(total, total_unit)
     if shown is None:
         shown = nearest_float(exact)
     if type(prices) is tuple:
-        sides = problem[3:] if type(problem) is tuple else problem.shape
         prices, scale = priced(len(rows), max(sides), Answer(None, prices, 1, 0))
     else:
         prices, scale = numpy.array(prices, object) if type(prices) is list else prices, (len(rows) + 1) << unit
-    if not gap:
-        return Solution(rows, columns, places, shown, shown, prices, scale, exact)
-    gap = fractions.Fraction(gap) / fractions.Fraction(2) ** gap_unit
-    bound = outer_bound(exact + gap if maximize else exact - gap, maximize, type(shown) is int)
-    return Solution(rows, columns, places, shown, bound, prices, scale, exact, gap)
+    bound = shown
+    if gap:
+        gap = fractions.Fraction(gap) / fractions.Fraction(2) ** gap_unit
+        bound = outer_bound(exact + gap if maximize else exact - gap, maximize, type(shown) is int)
+    return Solution(rows, columns, places, shown, bound, prices, scale, exact, gap or 0, None, costs, sides, maximize)

@@ -6,17 +6,17 @@ import numpy
 from numpy.typing import ArrayLike
 
 from . import fast
-from .amounts import exact_sum, nearest_float
-from .arguments import MOST_OBJECTS, attempt, is_whole, truth
+from .arguments import MOST_OBJECTS, MOST_PERSONS, attempt, is_whole
 from .asked import NO_ASSIGNMENT, Asked, bids_of
 from .costs import costs_of
 from .faults import Unsettled
 from .library import USUAL_BIDS
-from .problem import Lists, Problem
-from .scipy_calls import linear_sum_assignment
-from .shown import equal, hashed, shown_list, shown_pairs, unequal
+from .limits import in_one_type, is_listed, limits_of, with_all_outlets, with_outlets
+from .problem import Problem
+from .shown import compared_and_shown, shown_list, shown_pairs
 
 
+@compared_and_shown
 class Match(typing.NamedTuple):
     """Pairs of rows and columns, and those that stay free. Two are equal where all parts of them are.
 
@@ -40,41 +40,59 @@ class Match(typing.NamedTuple):
     def __repr__(self):
         return f"Match(pairs={shown_pairs(self)}, free_rows={shown_list(self.free_rows)}, free_columns={shown_list(self.free_columns)})"
 
-    __eq__, __ne__, __hash__ = equal, unequal, hashed
-
 
 def match(
     costs: typing.Any,
-    limit: float,
+    limit: float | ArrayLike,
     *,
+    column_limit: float | ArrayLike | None = None,
     rows: ArrayLike | None = None,
     columns: ArrayLike | None = None,
     shape: typing.Sequence[int] | None = None,
     maximize: bool = False,
+    missing: typing.Literal["forbidden"] | None = None,
     bids: int = USUAL_BIDS,
 ) -> Match:
-    """The pairs whose costs, less the limit each, have the least sum: as if each pair that isn't made cost the limit.
+    """The pairs whose costs have the least sum, together with the limit of each row that stays free.
 
-    So no pair dearer than the limit is made, and one more pair is made only where the others don't pay more than it gains. A pair of just the
-    limit counts as much as none. The sum is exact, of floats too: no other pairs have a smaller one.
+    So no pair dearer than the limit is made, and one more pair is made only where the others don't pay more than it
+    gains. A pair of just the limit counts as much as none. The sum is exact, of floats too: no other pairs have a
+    smaller one.
 
-    costs: a table as :func:`solve` takes it (a matrix, dense or sparse, or a DataFrame), or with `rows` and `columns` one list. Of a matrix
-        what is infinite is no pair.
-    limit: a finite number. Where costs are whole numbers beyond 2^53, it is whole.
+    costs: a table as :func:`solve` takes it (a matrix, dense or sparse, or a DataFrame), or with `rows` and `columns`
+        one list. Of a matrix what is infinite is no pair.
+    limit: what a row costs that stays free: a finite number, or a list with one of each row. Where costs are whole
+        numbers beyond 2^53, it is whole.
+    column_limit: what a column costs that stays free, where that isn't nothing: a number, or a list with one of each
+        column. Then a pair costs its row's and its column's limit together at most, and rows and columns number 10,000
+        at most together.
     rows, columns, shape: those of :func:`solve`. Rows and columns number 20,000 at most together.
     maximize: whether the most is wanted: then no pair of less than the limit is made.
-    bids: that of :func:`solve`.
+    missing, bids: those of :func:`solve`.
 
     Raises ValueError where an argument is at fault, and Unsettled where a limit of the search ended it.
 
     >>> found = sigdorf.match([[1.0, 9.0, 9.0], [9.0, 0.5, 9.0], [9.0, 0.75, 9.0]], 2.0)
     >>> found.rows.tolist(), found.columns.tolist(), found.free_rows.tolist()
     ([0, 1], [0, 1], [2])
+    >>> sigdorf.match([[1.0, 9.0], [9.0, 4.0]], [2.0, 3.0], column_limit=[0.0, 1.0])
+    Match(pairs={0: 0, 1: 1}, free_rows=[], free_columns=[])
     """
-    listed = rows is not None or columns is not None
-    asked = Asked(rows, columns, costs, shape, maximize) if listed else Asked(costs, shape=shape, maximize=maximize)
-    bids = bids_of(bids)
-    limit = _limit_of(asked.costs, limit)
+    asked, bids = asked_to_match(costs, rows, columns, shape, maximize, missing), bids_of(bids)
+    if column_limit is not None or is_listed(limit):
+        return _by_own_limits(asked, limit, column_limit, bids)
+    return matched(asked, _limit_of(asked.costs, limit), bids)
+
+
+def asked_to_match(costs, rows, columns, shape, maximize, missing):
+    """What is asked with a table, or with a list of costs and its rows and columns."""
+    if rows is None and columns is None:
+        rows, costs = costs, None
+    return Asked(rows, columns, costs, shape, maximize, missing=missing)
+
+
+def matched(asked, limit, bids):
+    """The Match of one limit: a whole number of the costs' type, or a float."""
     found = fast.found(asked.plain(_as_limit(asked.costs, limit)), asked.maximize, False, limit, None, bids)
     if found is None:
         return _by_lists(asked, limit, bids)
@@ -89,79 +107,68 @@ def _limit_of(costs, limit):
         if not type_of_costs.min <= limit <= type_of_costs.max:
             raise ValueError(f"limit must be within the type of the costs, {type_of_costs.dtype}")
         return int(limit)
-    near = attempt(float, limit)
-    if isinstance(limit, (str, bytes)) or near is None or not math.isfinite(near) or near != limit:
+    near = None if isinstance(limit, (str, bytes)) else attempt(_exact_float, limit)
+    if near is None:
         raise ValueError("limit must be a finite number, that a float of 64 bits is")
     if costs.dtype.kind in "biu" and costs.size and max(-int(costs.min()), int(costs.max())) > 2**53:
         raise ValueError("limit must be a whole number where costs are whole numbers beyond 2^53")
     return near
 
 
+def _exact_float(number):
+    """A finite number as a float, or None where that isn't the same."""
+    near = float(number)
+    return near if math.isfinite(near) and near == number else None
+
+
 def _as_limit(costs, limit):
     """The costs as numbers that can be compared with the limit; none is rounded."""
-    return costs.astype(numpy.float64) if type(limit) is float and costs.dtype.kind in "biu" else costs
+    if type(limit) is float and costs.dtype.kind in "biu":
+        return costs.astype(numpy.float64)
+    return costs.astype(numpy.int64) if costs.dtype.kind == "u" and limit < 0 else costs
 
 
 def _by_lists(asked, limit, bids):
     """The Match, where the extension has none."""
     lists = asked.lists
     values = fast.plain(_as_limit(lists.costs, limit))
-    if sum(lists.sides) > MOST_OBJECTS:
-        raise ValueError(f"rows and columns must number {MOST_OBJECTS:,} at most together")
-    # What isn't finite is refused before some costs are left out.
-    costs_of(lists.costs, None, asked.maximize, lists.fault)
+    _look_at_lists(asked)
+    by_columns, persons = lists.sides[0] > lists.sides[1], min(lists.sides)
     some = numpy.flatnonzero(values >= limit if asked.maximize else values <= limit)
-    problem = Problem(_with_outlets(lists, some, values, limit), asked.maximize, None)
-    solution = problem.solution(None, bids, NO_ASSIGNMENT)
+    sides = (lists.columns, lists.rows) if by_columns else (lists.rows, lists.columns)
+    limits = numpy.full(persons, limit, values.dtype)
+    more = with_outlets(*(side[some] for side in sides), values[some], limits, max(lists.sides))
+    return _matched(asked, Problem(more, asked.maximize, None).solution(None, bids, NO_ASSIGNMENT), some)
+
+
+def _by_own_limits(asked, limit, column_limit, bids):
+    """The Match of limits of rows, and of columns or none."""
+    lists = asked.lists
+    _look_at_lists(asked)
+    limits = limits_of(limit, lists.sides[0], "limit", "row")
+    if column_limit is None:
+        more = with_outlets(lists.rows, lists.columns, *in_one_type(lists.costs, limits), lists.sides[1])
+    else:
+        column_limits = limits_of(column_limit, lists.sides[1], "column_limit", "column")
+        if sum(lists.sides) > MOST_PERSONS:
+            raise ValueError(f"rows and columns must number {MOST_PERSONS:,} at most together with limits of columns")
+        more = with_all_outlets(lists, *in_one_type(lists.costs, limits, column_limits))
+    return _matched(asked, Asked.of_lists(more, asked.maximize).solution(None, bids), numpy.arange(len(lists.costs)))
+
+
+def _look_at_lists(asked):
+    """A ValueError where there are too many rows and columns, or a cost isn't finite, before some are left out."""
+    if sum(asked.sides) > MOST_OBJECTS:
+        raise ValueError(f"rows and columns must number {MOST_OBJECTS:,} at most together")
+    costs_of(asked.lists.costs, None, asked.maximize, asked.lists.fault)
+
+
+def _matched(asked, solution, some):
+    """The pairs of a solution with outlets, whose first entries are some of the caller's, and what stays free."""
     if solution.gap:
         raise Unsettled(solution)
-    return _without_outlets(lists, some[solution.entries[solution.entries < len(some)]])
-
-
-def _with_outlets(lists, some, values, limit):
-    """The lists of these entries, with a way out for each of the smaller side that is its own and costs the limit."""
-    by_columns = lists.sides[0] > lists.sides[1]
-    persons, objects = (lists.columns, lists.rows) if by_columns else (lists.rows, lists.columns)
-    mine = numpy.arange(min(lists.sides))
-    return Lists(
-        numpy.concatenate([persons[some], mine]),
-        numpy.concatenate([objects[some], max(lists.sides) + mine]),
-        numpy.concatenate([values[some], numpy.full(len(mine), limit, values.dtype)]),
-        (len(mine), sum(lists.sides)),
-    )
-
-
-def _without_outlets(lists, entries):
-    """The pairs of these entries, by rising rows, and who stays free."""
+    lists, entries = asked.lists, some[solution.entries[solution.entries < len(some)]]
     entries = entries[numpy.argsort(lists.rows[entries])]
     rows, columns = lists.rows[entries], lists.columns[entries]
     free = (numpy.setdiff1d(numpy.arange(side), held) for side, held in zip(lists.sides, (rows, columns)))
-    named = lists.named(rows, columns)
-    return Match(rows, columns, *free, lists.costs[entries], named and list(zip(*named)))
-
-
-def lapjv(cost: ArrayLike, extend_cost: bool = False, cost_limit: float = math.inf, return_cost: bool = True) -> tuple:
-    """As the call of this name of the package `lap`: the sum, the column of each row, and the row of each column, -1 for none.
-
-    cost: a matrix; as many rows as columns, unless `extend_cost` is True. What is infinite is no pair.
-    cost_limit: no pair dearer than this is made; see :func:`match`.
-    return_cost: whether the sum is wanted; else the two arrays of int32 alone are answered.
-
-    Raises Infeasible where there is no limit and no full assignment, and what :func:`match` does.
-
-    >>> total, of_row, of_column = sigdorf.lapjv([[1.0, 9.0], [9.0, 8.0]], cost_limit=2.0)
-    >>> total, of_row.tolist(), of_column.tolist()
-    (1.0, [0, -1], [0, -1])
-    """
-    matrix = numpy.asarray(cost)
-    if matrix.ndim != 2:
-        raise ValueError("2-dimensional array expected")
-    if matrix.shape[0] != matrix.shape[1] and not truth(extend_cost, "extend_cost"):
-        raise ValueError("Square cost array expected. If cost is intentionally non-square, pass extend_cost=True.")
-    rows, columns = linear_sum_assignment(matrix) if cost_limit == math.inf else match(matrix, cost_limit)[:2]
-    of_row, of_column = numpy.full(matrix.shape[0], -1, numpy.int32), numpy.full(matrix.shape[1], -1, numpy.int32)
-    of_row[rows], of_column[columns] = columns, rows
-    if not truth(return_cost, "return_cost"):
-        return of_row, of_column
-    costs = matrix[rows, columns]
-    return nearest_float(exact_sum(costs.astype(numpy.float64) if costs.dtype.kind == "f" else costs)), of_row, of_column
+    return Match(rows, columns, *free, lists.costs[entries], asked.labels(rows, columns))

@@ -104,6 +104,16 @@ def numbers_of(matrix):
     return numbers
 
 
+def without_missing(matrix, maximize):
+    """A dense matrix in which NaN is no entry."""
+    if is_sparse(matrix):
+        raise ValueError("missing is of dense tables alone: what a sparse one doesn't store is no entry")
+    numbers = numbers_of(matrix)
+    if numbers.dtype.kind != "f":
+        return numbers
+    return numpy.where(numpy.isnan(numbers), numbers.dtype.type(-numpy.inf if maximize else numpy.inf), numbers)
+
+
 def _dense(matrix, none, names):
     numbers = numbers_of(matrix)
     is_entry = _are_entries(numbers, none, lambda place: names.told(*divmod(place, numbers.shape[1])))
@@ -126,5 +136,7 @@ def _are_entries(costs, none, told):
         is_number = (costs != -none) & (costs == costs)
     if not is_number.all():
         place = int(numpy.argmin(is_number))
-        raise ValueError(f"matrix contains invalid numeric entries: {told(place)} has {costs.ravel()[place]}")
+        cost = costs.ravel()[place]
+        way_out = "; where that is no entry, solve and match take missing='forbidden'" if cost != cost else ""
+        raise ValueError(f"matrix contains invalid numeric entries: {told(place)} has {cost}{way_out}")
     return is_entry

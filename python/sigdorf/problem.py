@@ -7,6 +7,7 @@ from .exact import Answer, priced, solve_costs
 from .faults import Infeasible
 from .library import LIST_FAULTS
 from .solution import Solution
+from .starts import in_whole_units
 from .tables import NUMBERS
 from .whole import NoAssignment, arcs_of
 
@@ -14,7 +15,7 @@ from .whole import NoAssignment, arcs_of
 def lists_of(rows, columns, costs, shape):
     """The Lists of a caller's own. A ValueError says what is at fault."""
     rows, columns = (whole_numbers(side, name, 0, MOST_INDEX) for side, name in ((rows, "rows"), (columns, "columns")))
-    costs = _numbers(costs)
+    costs = costs_in(costs)
     if not len(rows) == len(columns) == len(costs):
         raise ValueError("rows and columns must be as many as the costs")
     if shape is None:
@@ -30,7 +31,7 @@ class Lists:
     faults tell the entry too."""
 
     def __init__(self, rows, columns, costs, sides, names=None):
-        self._names, self._is_matrix = names or NUMBERS, names is not None
+        self.names, self._is_matrix = names or NUMBERS, names is not None
         self.rows, self.columns, self.costs, self.sides = rows, columns, costs, sides
 
     def look_at_indices(self):
@@ -42,7 +43,8 @@ class Lists:
 
     def where(self, some):
         """The Lists of some of the entries."""
-        return Lists(self.rows[some], self.columns[some], self.costs[some], self.sides, self._names if self._is_matrix else None)
+        names = self.names if self._is_matrix else None
+        return Lists(self.rows[some], self.columns[some], self.costs[some], self.sides, names)
 
     def fault(self, place, sentence):
         """The fault of the cost at a place: what is said of it follows its row and column."""
@@ -50,11 +52,11 @@ class Lists:
         return ValueError(f"{self._told(place)}: the cost {self.costs[place]}{entry} {sentence}")
 
     def _told(self, place):
-        return self._names.told(self.rows[place], self.columns[place])
+        return self.names.told(self.rows[place], self.columns[place])
 
     def named(self, rows, columns):
         """The names of some rows and of some columns, or None where there are no names."""
-        return self._names.of(rows, columns)
+        return self.names.of(rows, columns)
 
 
 class Problem:
@@ -90,7 +92,10 @@ class Problem:
         return 10**self.costs.decimals if isinstance(self.costs, DecimalCosts) else 1
 
     def answered(self, start, bids, words):
-        """The :class:`~.exact.Answer` of the solver, from prices in units of whole costs, or from None. Raises Infeasible, with these words."""
+        """The :class:`~.exact.Answer` of the solver. Raises Infeasible, with these words.
+
+        start: prices in units of whole costs, floats in the unit of the costs, or None.
+        """
         if self.persons == 0:
             return Answer(numpy.zeros(0, numpy.int64), [(numpy.zeros(self.objects, numpy.int64), 0)], 1, 0)
         try:
@@ -104,6 +109,8 @@ class Problem:
         """Prices in units of the costs. What the library takes for none is an empty list."""
         if start is None:
             return numpy.zeros(0, numpy.int64)
+        if start.dtype.kind == "f":
+            return in_whole_units(start, (self.persons + 1) * self.decimal_scale, self.costs.unit)
         finer, coarser = min(max(self.costs.unit, 0), 60), min(max(-self.costs.unit, 0), 62)
         return numpy.minimum(start, HIGHEST_START >> finer) << finer >> coarser
 
@@ -127,14 +134,17 @@ class Problem:
         shown = self.costs.shown(cost)
         told = self.costs.shown_bound(cost - self.sign * answer.gap) if answer.gap else shown
         prices, scale = priced(self.persons, self.objects, answer)
-        return Solution(*self._pairs(answer.choice), shown, told, prices, scale * self.decimal_scale, cost, answer.gap or 0)
+        rows, columns, entries = self._pairs(answer.choice)
+        parts = rows, columns, entries, shown, told, prices, scale * self.decimal_scale, cost, answer.gap or 0, None
+        return Solution(*parts, self.costs.at(entries), self.lists.sides, self.sign < 0)
 
     def solution_of_units(self, found):
         """The Solution in the caller's decimals of one in whole units."""
         cost, gap = self.costs.amount(int(found.exact_cost)), abs(self.costs.amount(found.gap))
         shown = self.costs.shown(cost)
         told = self.costs.shown_bound(cost - self.sign * gap) if gap else shown
-        return found._replace(cost=shown, bound=told, scale=found.scale * self.decimal_scale, exact_cost=cost, gap=gap or 0)
+        amounts = {"cost": shown, "bound": told, "exact_cost": cost, "gap": gap or 0, "costs": self.costs.at(found.entries)}
+        return found._replace(scale=found.scale * self.decimal_scale, maximize=self.sign < 0, **amounts)
 
 
 def look_at_sides(sides):
@@ -145,7 +155,8 @@ def look_at_sides(sides):
         raise ValueError(LIST_FAULTS[2])
 
 
-def _numbers(costs):
+def costs_in(costs):
+    """A caller's list of costs, as an array of numbers."""
     numbers = array_of(costs, "costs", MOST_ENTRIES)
     if numbers.ndim != 1 or numbers.dtype.kind not in KINDS:
         raise ValueError("costs must be one list of numbers")

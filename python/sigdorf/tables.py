@@ -3,6 +3,7 @@ import typing
 
 from .arguments import attempt
 from .costs import look_at_rounding, may_be_rounded
+from .nullable import of_nullable
 
 
 class Names(typing.NamedTuple):
@@ -33,4 +34,4 @@ def named(table):
     if may_be_rounded(parts[0]):
         # Columns of whole numbers beside others of floats have become floats.
         look_at_rounding(attempt(lambda given: given.to_numpy(object).tolist(), table) or [], parts[0])
-    return parts[0], Names(*parts[1:])
+    return of_nullable(table, parts[0]), Names(*parts[1:])

@@ -50,7 +50,7 @@ def calls(seed):
         warnings.simplefilter("error" if source.random() < 0.5 else "ignore")
         warnings.simplefilter("ignore", PendingDeprecationWarning)
         warnings.filterwarnings("ignore", "explicit zero")
-        call = source.choice([call_solve, call_solve, call_check, call_matrix, call_sparse])
+        call = source.choice([call_solve, call_solve, call_check, call_matrix, call_sparse, call_restricted, call_match])
         with numpy.errstate(all=source.choice(["raise", "ignore", "warn"])):
             return call(source, Problem(source))
 
@@ -152,6 +152,36 @@ def odd_part(source, name, part):
     if source.random() < 0.2:
         return source.sample(numbers, len(numbers))
     return guises.odd(source, numbers)
+
+
+def call_restricted(source, problem):
+    """With pairs, capacities and starts in any guise."""
+    given, words = [*problem.lists(source), problem.shape], problem.words(source)
+    places = [source.randrange(3) for _ in range(source.randrange(5))]
+    for name in source.sample(["forced", "forbidden", "capacity", "missing", "start"], source.choice([1, 1, 2])):
+        pairs = [(source.randrange(4), source.randrange(4)) for _ in range(source.randrange(3))]
+        right = {"capacity": places, "start": sigdorf.solve(numpy.ones(problem.shape))}
+        words[name] = guises.odd(source, places) if source.random() < 0.4 else right.get(name, pairs)
+    found, outcome = outcome_of(sigdorf.solve, *given, **words)
+    if outcome == "answered":
+        words.pop("start", None)
+        sigdorf.check(found, *given, **words)
+    return f"restricted {outcome}"
+
+
+def call_match(source, problem):
+    """With limits in any guise, of a table, a list or Edges."""
+    matrix = dense_of(problem)
+    limits = [source.randint(-9, 9) for _ in range(source.choice([problem.shape[0], 3]))]
+    limits = guises.odd(source, limits) if source.random() < 0.5 else guises.same(source, limits, guises.INTEGERS)
+    words = {"maximize": problem.maximize} | ({"column_limit": guises.odd(source, [3, 5, 9])} if source.random() < 0.3 else {})
+    kind = source.randrange(4)
+    if kind == 0:
+        return f"max_cardinality_match {outcome_of(sigdorf.max_cardinality_match, matrix, maximize=problem.maximize)[1]}"
+    if kind == 1:
+        edges, outcome = outcome_of(sigdorf.Edges, *(guises.odd(source, [1, 2, 3]) for _ in range(3)))
+        return f"Edges {outcome if outcome != 'answered' else outcome_of(sigdorf.solve, edges)[1]}"
+    return f"match {outcome_of(sigdorf.match, matrix, limits, **words)[1]}"
 
 
 def dense_of(problem):

@@ -201,7 +201,8 @@ def assert_others_refused(source, solution, lists, maximize):
     if None not in entries:
         total = sum(fractions.Fraction(costs[entry].item()) for entry in entries)
         shown, prices = as_shown(total, costs), [int(price * solution.scale) for price in solution.exact_prices()]
-        claim = solution._replace(columns=other, entries=entries, cost=shown, bound=shown, exact_cost=total, prices=prices)
+        parts = {"columns": other, "entries": entries, "prices": prices, "costs": costs[entries]}
+        claim = solution._replace(cost=shown, bound=shown, exact_cost=total, **parts)
         assert passes(claim, lists, maximize) == (total == solution.exact_cost), "another assignment"
     wrong = solution.prices.astype(object)
     wrong[source.randrange(len(wrong))] += solution.scale * source.choice([-1, 1]) * source.choice([1, 10**6])

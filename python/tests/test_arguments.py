@@ -225,7 +225,7 @@ class Claims(Limited):
     def test_order_of_pairs(self):
         """Pairs may stand in any order, as long as each is the one of its entry."""
         solution = sigdorf.solve(*LISTS)
-        turned = solution._replace(rows=solution.rows[::-1], columns=solution.columns[::-1], entries=solution.entries[::-1])
+        turned = solution._replace(rows=solution.rows[::-1], columns=solution.columns[::-1], entries=solution.entries[::-1], costs=solution.costs[::-1])
         sigdorf.check(turned, *LISTS)
 
     def test_faults_in_other_processes(self):

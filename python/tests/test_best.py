@@ -9,6 +9,10 @@ import unittest
 from limited import Limited, numpy, scipy, sigdorf
 from test_ties import NUMBERS
 
+try:
+    import networkx
+except ImportError:
+    networkx = None
 if numpy:
     import floats
 
@@ -150,13 +154,15 @@ class Shown(Limited):
 class Examples(Limited):
     def test_each(self):
         """Each public name has an example, and it comes out so."""
-        words = {"sigdorf": sigdorf, "numpy": numpy, "scipy": scipy}
+        words = {"sigdorf": sigdorf, "numpy": numpy, "scipy": scipy, "networkx": networkx}
         for name in sigdorf.__all__:
             given = getattr(sigdorf, name)
             if name == "USUAL_BIDS" or name == "min_weight_full_bipartite_matching" and not scipy:
                 continue
             told = []
-            tests = [test for test in doctest.DocTestFinder(recurse=False).find(given, name, globs=words) if test.examples]
+            # Those of a class's calls too.
+            tests = [test for test in doctest.DocTestFinder().find(given, name, globs=words) if test.examples]
+            tests = [test for test in tests if networkx or "networkx" not in test.docstring]
             self.assertTrue(tests, name)
             for test in tests:
                 self.assertFalse(doctest.DocTestRunner(verbose=False).run(test, out=told.append).failed, "".join(told))

@@ -29,6 +29,8 @@ if __name__ == "__main__":
     {behind}
     print("as one by one")
 """
+# The page has the parts once, before the processes.
+PARTS = "parts = [problems[first : first + 500] for first in range(0, len(problems), 500)]"
 CLUSTER = 'import distributed; cluster = distributed.LocalCluster(n_workers=2, threads_per_worker=1, host="127.0.0.1", dashboard_address=None)'
 
 
@@ -50,7 +52,8 @@ class Machines(Limited):
 
     @unittest.skipUnless(importlib.util.find_spec("distributed"), "Dask is not there (Debian's python3-distributed)")
     def test_dask(self):
-        self.assert_runs("tcp://", CLUSTER, "cluster.close()", lambda program: re.sub('"tcp://.*?"', "cluster.scheduler_address", program))
+        self.assertIn(PARTS, PAGE.read_text(encoding="utf-8"))
+        self.assert_runs("tcp://", f"{CLUSTER}; {PARTS}", "cluster.close()", lambda program: re.sub('"tcp://.*?"', "cluster.scheduler_address", program))
 
 
 if __name__ == "__main__":

@@ -15,7 +15,7 @@ from wheel.bdist_wheel import bdist_wheel
 HERE = pathlib.Path(__file__).resolve().parent
 # The least version of CPython that loads the extension.
 LEAST = "cp310"
-# A script of the name `build` stands where setuptools would have its folder.
+# A script of the name `build` is where setuptools would have its folder.
 BUILD = tempfile.mkdtemp(prefix="sigdorf-")
 atexit.register(shutil.rmtree, BUILD, ignore_errors=True)
 

@@ -1,4 +1,4 @@
-"""Sums and comparisons of numbers as they stand: floats of 64 bits and whole numbers of 64 bits, without rounding.
+"""Sums and comparisons of numbers as they are: floats of 64 bits and whole numbers of 64 bits, without rounding.
 
 A finite float of 64 bits is a whole number of 2^-1074, so that Python's whole numbers hold it in a fine enough unit.
 """

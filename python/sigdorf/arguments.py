@@ -29,7 +29,7 @@ def is_whole(value):
 
 
 def truth(value, name):
-    """True or False; 0 and 1 stand for them."""
+    """True or False; 0 and 1 mean them."""
     if isinstance(value, (bool, numpy.bool_)):
         return bool(value)
     found = attempt(operator.index, value)
@@ -39,7 +39,7 @@ def truth(value, name):
 
 
 def sides_of(shape):
-    """The numbers of rows and of columns that a shape tells."""
+    """The numbers of rows and of columns that a shape gives."""
     is_list = isinstance(shape, (tuple, list)) or isinstance(shape, numpy.ndarray) and shape.ndim == 1
     if not is_list or len(shape) != 2:
         raise ValueError("shape must be two numbers, of rows and of columns")

@@ -42,7 +42,7 @@ def solve(
     at most, mostly far less. The solver is the direct one, as the program's with --direct; the numbers of rows and
     columns may be unequal.
 
-    rows, columns: int arrays of one length, from 0; a pair may stand twice.
+    rows, columns: int arrays of one length, from 0; a pair may appear twice.
     costs: int or float array of the same length, of at most 64 bits a number. Each counts exactly as it is: no
         assignment has a smaller sum, of all digits that these numbers have. Costs that are no whole numbers to 10^9
         take a few searches in place of one.
@@ -63,7 +63,7 @@ def solve(
         0 to 2^60, on the scale of whole costs times the smaller side + 1 (of decimals, 10^decimals times that); they
         may be wrong. :class:`Solver` does this for problems that follow one another.
     bids: how many bids a phase may take, from 0 to 2^64 - 1.
-    seconds: a limit of time, from 0. Behind it comes what was found by then: no fault, but a solution whose
+    seconds: a limit of time, from 0. After it comes what was found by then: no fault, but a solution whose
         `is_optimal` is False. The search is made in slices, each from the beginning again with more bids than the one
         before. The first answer takes as long as it takes to read the entries and to find any assignment, whatever the
         limit. docs/PYTHON.md says how late it may be.

@@ -56,14 +56,14 @@ def certify(
 
 
 def _entries_of(lists, rows, columns):
-    """The places of these pairs among the entries of a table, where each stands once."""
+    """The places of these pairs among the entries of a table, where each appears once."""
     for name, given, side in (("row", rows, lists.sides[0]), ("column", columns, lists.sides[1])):
         outside = (given < 0) | (given >= side)
         if outside.any():
             raise Refused(f"there is no {name} {given[outside.argmax()]} in a table of {side} {name}s")
         numbers, times = numpy.unique(given, return_counts=True)
         if len(numbers) < len(given):
-            raise Refused(f"{name} {numbers[times.argmax()]} stands {times.max()} times")
+            raise Refused(f"{name} {numbers[times.argmax()]} appears {times.max()} times")
     if len(rows) != min(lists.sides):
         raise Refused(f"{len(rows)} pairs are no full assignment, which has {min(lists.sides)}")
     places, wanted = lists.rows * lists.sides[1] + lists.columns, rows * lists.sides[1] + columns

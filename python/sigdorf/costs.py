@@ -15,7 +15,7 @@ KINDS = "biuf"
 
 
 def costs_of(given, decimals, maximize, fault):
-    """The costs of a caller's array: in units of 10^-decimals, or where `decimals` is None as they stand.
+    """The costs of a caller's array: in units of 10^-decimals, or where `decimals` is None as they are.
 
     `fault` makes the ValueError of a place in the array and of a sentence about its cost.
     """
@@ -116,7 +116,7 @@ def may_be_rounded(numbers):
 
 
 def look_at_rounding(given, numbers):
-    """A ValueError where numpy had to round whole numbers of a caller's list, since a negative one or a fraction stands beside a long one."""
+    """A ValueError where numpy had to round whole numbers of a caller's list, since a negative one or a fraction is beside a long one."""
     if isinstance(given, numpy.ndarray) or not may_be_rounded(numbers):
         return
     for number, value in zip(numpy.array(given, object).ravel().tolist(), numbers.ravel().tolist()):
@@ -177,7 +177,7 @@ def _decimal(given, decimals, fault):
     if given.dtype.kind != "f":
         return given.astype(numpy.int64) * factor
     whole = numpy.rint(wide * factor)
-    # A float stands for a decimal number where it is the one nearest to it.
+    # A float means a decimal number where it is the one nearest to it.
     stands = (whole / factor).astype(given.dtype) == given
     if not stands.all():
         raise fault(int(numpy.argmin(stands)), f"has more than {decimals} decimals: {_way_out(wide, decimals)}")

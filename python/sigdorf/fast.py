@@ -57,7 +57,7 @@ def plain(numbers):
     try:
         return numbers.astype(FLOAT if kind.kind == "f" else NATURAL if kind.kind == "u" and kind.itemsize == 8 else WHOLE, order="C", copy=False)
     except (FloatingPointError, RuntimeWarning):
-        # A caller has numpy raise where a number that isn't one is met, which is told later.
+        # A caller has numpy raise where a number that isn't one is met, which is said later.
         return numbers
 
 

@@ -18,7 +18,7 @@ class Infeasible(ValueError):
     """
 
     def __init__(self, rows, columns, by_columns=False, words="no full assignment exists", labels=None):
-        # What an exception is made of anew, as where one process tells it to another, are its arguments.
+        # What an exception is made of anew, as where one process sends it to another, are its arguments.
         super().__init__(rows, columns, by_columns, words, labels)
         self.rows, self.columns, self.by_columns, self.words, self.labels = rows, columns, by_columns, words, labels
 
@@ -57,7 +57,7 @@ class Refused(ValueError):
     >>> sigdorf.certify([0, 0], [0, 1], [[1, 2], [1, 4]])
     Traceback (most recent call last):
         ...
-    sigdorf.faults.Refused: row 0 stands 2 times
+    sigdorf.faults.Refused: row 0 appears 2 times
     """
 
 

@@ -114,7 +114,7 @@ def _of_each(rows, columns, shape):
 
 
 def _answer(return_cost, costs, *parts):
-    """The parts, behind the sum where it is wanted."""
+    """The parts, after the sum where it is wanted."""
     if not truth(return_cost, "return_cost"):
         return parts if len(parts) > 1 else parts[0]
     return nearest_float(exact_sum(costs.astype(numpy.float64) if costs.dtype.kind == "f" else costs)), *parts

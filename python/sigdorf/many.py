@@ -52,7 +52,7 @@ def solve_many(
         answers = [pool.submit(_solved, problems, part, words) for part in parts]
         return _in_order(problems, parts, [answer.result() for answer in answers])
     finally:
-        # Behind a fault or Ctrl-C nobody waits for what is under way.
+        # After a fault or Ctrl-C nobody waits for what is under way.
         pool.shutdown(wait=False, cancel_futures=True)
 
 

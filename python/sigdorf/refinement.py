@@ -1,4 +1,4 @@
-"""Costs as they stand, by rounds of whole costs: docs/notes/exact.md has the argument.
+"""Costs as they are, by rounds of whole costs: docs/notes/exact.md has the argument.
 
 At a level with the unit 2^-unit each cost is worth - price + slack + tail in this unit: a worth of its person, a whole price of its object, a
 whole slack from 0, and a tail of a half at most. The choice of each person has no slack. Where there are more objects than persons no price
@@ -13,7 +13,7 @@ from .near import Near
 
 # By so many powers of two a round is finer at most: slacks of 16 bits have 60 then.
 MOST_FINER = 44
-# What stands for every price that is beyond all costs of a round.
+# What means every price that is beyond all costs of a round.
 PLENTY = 1 << 31
 
 
@@ -90,7 +90,7 @@ def most_slack(persons):
 
 
 def _scaled(price, by):
-    """Prices in a unit that is finer by powers of two; PLENTY stays what stands for any that is greater."""
+    """Prices in a unit that is finer by powers of two; PLENTY stays what means any that is greater."""
     return numpy.where(price > PLENTY >> by, PLENTY, price << by)
 
 

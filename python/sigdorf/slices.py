@@ -1,4 +1,4 @@
-"""A search under a limit of time, and progress of one: in slices, since the library watches no clock, and tells nothing before its end.
+"""A search under a limit of time, and progress of one: in slices, since the library watches no clock, and says nothing before its end.
 
 Each slice is a search from the beginning with more bids than the one before. It is of four times as many, until the time that is left wouldn't do
 for one more such step; the last one has as many bids as the time is likely to do for.
@@ -44,7 +44,7 @@ class Slices:
         self.bids = min(bids, max(FEWEST_BIDS, int(share / a_bid)))
 
     def has_next(self, took):
-        """Whether one more slice is worth while behind one that took so long, and sets its bids."""
+        """Whether one more slice is worth while after one that took so long, and sets its bids."""
         if self.bids == self._most:
             return False
         left, bids, rate = self._end - time.monotonic(), self.bids, self._rate(took)
@@ -67,7 +67,7 @@ class Slices:
 
 
 def solve_in_slices(solved, slices, maximize, progress):
-    """The best Solution that slices come to; `solved` has that of a number of bids. After each slice `progress` is told the bound and the cost."""
+    """The best Solution that slices come to; `solved` has that of a number of bids. After each slice `progress` gets the bound and the cost."""
     best = None
     while True:
         began = time.monotonic()

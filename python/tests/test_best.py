@@ -107,7 +107,7 @@ class Certified(Limited):
         for rows, columns, words in [
             ([0, 2], [0, 1], "no row 2 in a table of 2 rows"),
             ([0, 1], [0, -1], "no column -1 in a table of 3 columns"),
-            ([0, 1], [1, 1], "column 1 stands 2 times"),
+            ([0, 1], [1, 1], "column 1 appears 2 times"),
             ([0], [1], "1 pairs are no full assignment, which has 2"),
             ([0, 1], [2, 0], "row 0, column 2 is no entry"),
         ]:

@@ -28,9 +28,9 @@ def max_cardinality_match(
 
     It is for tables where not every row can have a column.
 
-    The arguments are those of :func:`match`, which has a limit besides. The sum is exact, of floats too. Great costs
-    are refused, where sums of
-    as many as there may be pairs could be beyond their type: whole numbers near 2^63, and floats near 1e308.
+    The arguments are those of :func:`match`, which has a limit besides. The sum is exact, of floats too. Costs are
+    refused where the sum of as many as there may be pairs could be beyond their type: whole numbers near 2^63, and
+    floats near 1e308.
 
     Raises ValueError where an argument is at fault, and Unsettled where a limit of the search ended it.
 

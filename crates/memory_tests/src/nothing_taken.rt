@@ -7,57 +7,18 @@ use crate::problems::{THREE, problem_of};
 use crate::same::assert_same;
 use crate::solvers::limits_of;
 use auc_book::{MailState, TrailFull};
-use auc_cert::{write_cert, write_whole};
+use auc_cert::write_cert;
 use auc_claim::{Cert, CertParts, Pick, Picks, Prices};
-use auc_graph::{Number, ReadLimits, Rows, Token, number_of, token_at};
+use auc_graph::Rows;
 use auc_hall::Partial;
 use auc_letters::{Held, Letter, Out, PersonState, To, shard_of};
-use auc_mail::{Call, MailPool, Taken};
+use auc_mail::{MailPool, Taken};
 use auc_nodes::NodePool;
 use auc_objects::ObjectShard;
 use auc_persons::PersonShard;
-use auc_world::{Limits, Turn, World, first_eps, next_eps, play};
+use auc_world::{Limits, Turn, World, play};
 use std::alloc::Global;
 use std::test::*;
-
-#[test]
-fn tokens(rt: HostRuntime) -> Result<(), Fail> {
-    let mark = refuse_all(rt.alloc())?;
-    let token = token_at(b" 2 1", 0);
-    let number = number_of(b"-7.");
-    let next = next_eps(1);
-    let usual = ReadLimits::usual();
-    drop(mark);
-    assert_same(&rt, token, Some(Token { start: 1, end: 2 }));
-    assert_same(&rt, number, Number::Value(-7));
-    assert_same(&rt, next, None);
-    assert_same(&rt, (usual.arcs, usual.reads), (33_554_432, 1_073_741_824));
-    Ok(())
-}
-
-/// Whether each person has three arcs.
-fn are_whole(rows: &Rows) -> bool {
-    for person in 0..rows.persons() {
-        if rows.row(person).len() != 3 {
-            return false;
-        }
-    }
-    true
-}
-
-#[test]
-fn rows(rt: HostRuntime) -> Result<(), Fail> {
-    let problem = problem_of(rt.alloc(), THREE)?;
-    let rows = Rows::build(rt.alloc(), &problem)?;
-    let mark = refuse_all(rt.alloc())?;
-    let listed = problem.arcs().len();
-    let are_whole = are_whole(&rows);
-    let told = (rows.cost_spread(), first_eps(&rows));
-    drop(mark);
-    assert_same(&rt, (listed, are_whole), (9, true));
-    assert_same(&rt, told, (5, 2));
-    Ok(())
-}
 
 #[test]
 fn placing(rt: HostRuntime) -> Result<(), Fail> {
@@ -103,37 +64,6 @@ fn mails(rt: HostRuntime) -> Result<(), Fail> {
         item: 5,
     };
     assert_same(&rt, taken, (letter, Taken::Over));
-    Ok(())
-}
-
-/// The read calls of a pool.
-#[test]
-fn looks_at_a_pool(rt: HostRuntime) -> Result<(), Fail> {
-    let mut pool = NodePool::make(rt.alloc(), 2, 2, 0i64)?;
-    let mark = refuse_all(rt.alloc())?;
-    let pushed = pool.push_back(1, 6);
-    let fronts = (pool.front(0), pool.front(1));
-    let lens = (pool.len(0), pool.len(1));
-    drop(mark);
-    assert_same(&rt, pushed, Ok(()));
-    assert_same(&rt, (fronts, lens), ((None, Some(6)), (0, 1)));
-    Ok(())
-}
-
-/// The read calls of a mail.
-#[test]
-fn looks_at_a_mail(rt: HostRuntime) -> Result<(), Fail> {
-    let mut mail = MailPool::make(rt.alloc(), 1, 2, 2, 9, 0i64)?;
-    let mark = refuse_all(rt.alloc())?;
-    let fits = (
-        mail.fits(&Call::Take { at: 0 }),
-        mail.fits(&Call::Close { at: 1 }),
-    );
-    let posted = mail.post(1, 0, 5, 0);
-    let counts = (mail.waiting(0), mail.posted(0, 1), mail.taken(0, 1));
-    drop(mark);
-    assert_same(&rt, (fits, posted), ((true, false), Ok(1)));
-    assert_same(&rt, counts, (1, 1, 0));
     Ok(())
 }
 
@@ -256,17 +186,5 @@ fn certificates(rt: HostRuntime) -> Result<(), Fail> {
         text.as_slice(),
         b"auction 1\noptimal 1 -7\nassign 1 1 -7\nprice 1 1\n".as_slice(),
     );
-    Ok(())
-}
-
-/// Bytes go to a writer that has reserved its room.
-#[test]
-fn written_bytes(rt: HostRuntime) -> Result<(), Fail> {
-    let mut text = Vec::with_capacity(rt.alloc(), 64)?;
-    let mark = refuse_all(rt.alloc())?;
-    let written = write_whole(&mut text, b"optimal 1 -7\n");
-    drop(mark);
-    assert_same(&rt, written, Ok(()));
-    assert_same(&rt, text.as_slice(), b"optimal 1 -7\n".as_slice());
     Ok(())
 }

@@ -127,18 +127,3 @@ fn same_certificate_with_any_shards(rt: HostRuntime) -> Result<(), Fail> {
     }
     Ok(())
 }
-
-#[test]
-fn same_assignment_with_any_shards(rt: HostRuntime) -> Result<(), Fail> {
-    for example in PRICED {
-        let Example { problem, claim, .. } = example;
-        for shards in [2, 3, 16] {
-            let out = answered(&rt, problem, Limits::usual(shards))?;
-            assert!(rt;
-                out.as_slice().starts_with(claim.as_bytes()),
-                "{shards} {problem}"
-            );
-        }
-    }
-    Ok(())
-}

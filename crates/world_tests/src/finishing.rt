@@ -4,8 +4,8 @@ use crate::problems::{TWO, problem_of};
 use crate::same::assert_same;
 use auc_claim::Reason;
 use auc_graph::Rows;
-use auc_letters::{Held, Why};
-use auc_world::finish::{bracket, optimal, stop_of};
+use auc_letters::Held;
+use auc_world::finish::{bracket, optimal};
 use auc_world::{Answer, Gathered, Guard};
 use std::test::*;
 
@@ -93,11 +93,4 @@ fn holders_without_a_place(rt: HostRuntime) -> Result<(), Fail> {
         );
     }
     Ok(())
-}
-
-/// Limits are distinguished from guards.
-#[test]
-fn stops_by_reason(rt: HostRuntime) {
-    assert_same(&rt, stop_of(Why::Ceiling), Ok(Reason::Ceiling));
-    assert_same(&rt, stop_of(Why::Fell), Err(Guard::Fell));
 }

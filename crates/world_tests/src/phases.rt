@@ -2,7 +2,7 @@
 
 use crate::problems::{NO_OBJECT, ONE, THREE, TWO, rows_of};
 use crate::same::assert_same;
-use auc_world::{Limits, first_eps, next_eps};
+use auc_world::{first_eps, next_eps};
 use std::test::*;
 
 /// A spread of 100 in a problem of 5,000 persons.
@@ -39,16 +39,4 @@ fn no_phase_behind_the_last(rt: HostRuntime) {
     }
     assert_same(&rt, next_eps(9), Some(1));
     assert_same(&rt, next_eps(10), Some(2));
-}
-
-#[test]
-fn usual_limits(rt: HostRuntime) {
-    let limits = Limits {
-        bids: 100_000_000,
-        posts: 1_000_000_000_000,
-        shards: 3,
-        audit: 0,
-        nodes: 0,
-    };
-    assert_same(&rt, Limits::usual(3), limits);
 }

@@ -18,9 +18,9 @@ use Rattle.auc_claim.specs.declared.cert.CertParts.{CertParts}
 use Rattle.auc_claim.specs.declared.reason.Reason.{Reason}
 use Rattle.auc_claim.specs.declared.lists.Pick.{Pick}
 use Rattle.auc_claim.specs.Claim.{chosen, pick_of}
-use Rattle.auc_claim.proofs.Converse.{assignment_spelled, bracket_faultless, bracket_spelled}
+use Rattle.auc_claim.proofs.Converse.{assignment_in_range, bracket_faultless, bracket_in_range}
 use Rattle.auc_claim.proofs.ClaimLaws.{faultless_is_allowed}
-use Rattle.auc_claim.specs.Spelled.{IsSpelled}
+use Rattle.auc_claim.specs.InRange.{IsInRange}
 use Rattle.auc_answers.specs.Answers.{HasAssignment, IsCertified}
 use Rattle.auc_answers.specs.Claims.{ArePlaceable, BoundFits, HasNoPriceUnheld, IsBracketBy, holder_at}
 use Rattle.auc_answers.proofs.FoundLaws.{length_chosen, pick_back}
@@ -28,19 +28,19 @@ use Rattle.auc_answers.proofs.FoundLaws.{length_chosen, pick_back}
 -- the picks of an assignment, their cost, and the bound of lawful prices
 module _ (p : Problem) (reason : Reason) (prices : List ℤ) (is : IsProblem p) (each : length prices ≡ p.objects) (within : All IsPrice prices) where
   pub cost_fits : (choice : List Arc) → IsAssignment p choice → FitsSigned w64 (total_cost choice)
-  cost_fits choice given = (assignment_spelled p choice prices is given each within).0
+  cost_fits choice given = (assignment_in_range p choice prices is given each within).0
 
   -- if there is an assignment, and at most as many objects as persons have a price
   pub bound_fits : AreFewPriced p prices → HasAssignment p → BoundFits p prices
-  bound_fits few has lower bound = (bracket_spelled p has.0 prices lower reason is has.1 each within few bound).0
+  bound_fits few has lower bound = (bracket_in_range p has.0 prices lower reason is has.1 each within few bound).0
 
   pub certified_bracket : BoundFits p prices → (cert : CertParts) → IsBracketBy p reason prices cert → IsCertified p cert
   certified_bracket fits cert by =
-      let other = assignment_spelled p by.choice prices is by.assigned each within in
-      let spelled : IsSpelled (CertParts.Bracket reason by.lower (total_cost by.choice) (map pick_of by.choice) prices) = (fits by.lower by.bound, other.0, other.1) in
+      let other = assignment_in_range p by.choice prices is by.assigned each within in
+      let in_range : IsInRange (CertParts.Bracket reason by.lower (total_cost by.choice) (map pick_of by.choice) prices) = (fits by.lower by.bound, other.0, other.1) in
       let faultless = bracket_faultless p by.choice by.assigned prices each (total_cost by.choice) refl reason by.lower by.bound in
       subst (IsCertified p) (sym by.is)
-      (record { spelled = spelled; faultless = faultless; allowed = faultless_is_allowed p (CertParts.Bracket reason by.lower (total_cost by.choice) (map pick_of by.choice) prices) is spelled faultless })
+      (record { in_range = in_range; faultless = faultless; allowed = faultless_is_allowed p (CertParts.Bracket reason by.lower (total_cost by.choice) (map pick_of by.choice) prices) is in_range faultless })
 
 -- the parts, as the code makes them
 pub bracket_is : (p : Problem) (reason : Reason) (prices : List ℤ) (lower cost : ℤ) (picks : List Pick) → IsAssignment p (chosen 0 picks) → IsLower (scale_of p) (dual p prices) lower → cost ≡ total_cost (chosen 0 picks)

@@ -308,7 +308,7 @@ claim_is cost picks prices is = ap (λ (z : ℤ). CertParts.Optimal z picks pric
 module _ (p : Problem) (holders : List (Option Held)) (prices : List ℤ) (picks : List Pick) (choice_is : IsChoiceOf p holders (chosen 0 picks)) where
   pub unspelled_claim : (cost : ℤ) → cost ≡ total_cost (chosen 0 picks) → (FitsSigned w64 cost → ⊥) → (choice : List Arc) → IsChoiceOf p holders choice → IsCertified p (claim_of choice prices) → ⊥
   unspelled_claim cost is past choice other sound =
-      past (subst (FitsSigned w64) (ap total_cost (one_choice p holders choice (chosen 0 picks) other choice_is) ∙ sym is) sound.spelled.0)
+      past (subst (FitsSigned w64) (ap total_cost (one_choice p holders choice (chosen 0 picks) other choice_is) ∙ sym is) sound.in_range.0)
 
 -- the claim is the same for each choice of the holders' arcs
 module _ (p : Problem) (holders : List (Option Held)) (prices : List ℤ) (cert : CertParts) (made : IsClaimOf p holders prices cert) where

@@ -9,8 +9,8 @@ use Rattle.auc_hall.specs.declared.matching.Matching.TheVariants.{Hall}
 use Rattle.auc_hall.proofs.ProblemLaws.{matching_of}
 use Rattle.auc_claim.specs.declared.cert.CertParts.{CertParts}
 use Rattle.auc_claim.specs.declared.cert.CertParts.TheVariants.{Infeasible}
-use Rattle.auc_claim.specs.Spelled.{AreNamed}
-use Rattle.auc_claim.proofs.HallLaws.{hall_set_named}
+use Rattle.auc_claim.specs.InRange.{AreNamesInRange}
+use Rattle.auc_claim.proofs.HallLaws.{hall_set_in_range}
 use Rattle.auc_claim.proofs.ClaimLaws.{hall_sets_faultless}
 use Rattle.auc_answers.specs.Answers.{IsCertified, IsHallCertificate}
 
@@ -23,12 +23,12 @@ known_within p persons objects is set j c =
     let within : IsWithin p.persons p.objects a.0 = subst (IsWithin p.persons p.objects) a.1.2 (is.within a.1.0 a.0 a.1.1) in
     omega (arith, within.object, a.3)
 
-pub are_named : (p : Problem) (persons objects : List ℕ) → IsProblem p → IsHallSetOf p persons objects → AreNamed persons objects
-are_named p persons objects is set = hall_set_named p persons objects is set.set set.persons_rise set.objects_rise (known_within p persons objects is set)
+pub names_in_range : (p : Problem) (persons objects : List ℕ) → IsProblem p → IsHallSetOf p persons objects → AreNamesInRange persons objects
+names_in_range p persons objects is set = hall_set_in_range p persons objects is set.set set.persons_rise set.objects_rise (known_within p persons objects is set)
 
 pub hall_set_certified : (p : Problem) (persons objects : List ℕ) → IsProblem p → IsHallSetOf p persons objects → IsCertified p (Infeasible persons objects)
 hall_set_certified p persons objects is set = record {
-  spelled = are_named p persons objects is set;
+  in_range = names_in_range p persons objects is set;
   faultless = hall_sets_faultless p persons objects set.set (known_within p persons objects is set);
   allowed = set.set;
 }

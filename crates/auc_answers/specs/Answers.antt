@@ -10,14 +10,15 @@ use Rattle.auc_claim.specs.declared.lists.Pick.{Pick}
 use Rattle.auc_claim.specs.declared.reason.Reason.{Reason}
 use Rattle.auc_claim.specs.declared.cert.CertParts.{CertParts}
 use Rattle.auc_claim.specs.Claim.{IsAllowed, fault_of}
-use Rattle.auc_claim.specs.Spelled.{IsSpelled}
+use Rattle.auc_claim.specs.InRange.{IsInRange}
 use Rattle.auc_answers.specs.declared.answer.Answer.{Answer}
 use Rattle.auc_answers.specs.declared.answer.Guard.{Guard}
 use Rattle.auc_answers.specs.Claims.{ArePlaceable, BoundFits, GrowsFrom, IsBracketBy, IsChoiceOf, claim_of, picks_of}
 
--- the certificate has a text, the checker finds no fault in it, and so its claim about the problem is true
+-- The certificate is in range, the checker finds no fault in it, and so its claim about the problem is true. It has a
+-- text where the problem has one (`auc_claim` faultless_claims_are_spelled).
 pub record IsCertified (p : Problem) (cert : CertParts) : Type 0 where
-  pub spelled : IsSpelled cert
+  pub in_range : IsInRange cert
   pub faultless : fault_of p cert ≡ None
   pub allowed : IsAllowed p cert
 

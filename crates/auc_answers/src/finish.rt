@@ -42,12 +42,12 @@ pub fn stop_of(why: Why) -> Result<Reason, Guard>
     }
 }
 
-/// The certificate of these parts, where it has a text and passes the checker.
+/// The certificate of these parts, where they are in range and pass the checker.
 fn certified(alloc: Global, problem: &ArcList, parts: CertParts) -> Result<Option<Cert>, AllocError>
     ensures some { IfOk result (λ o. IfSome o (λ c. (c ≡ parts) × IsCertified problem.now c)) }
     ensures none { IfOk result (λ o. IfNone o (IsCertified problem.now parts → ⊥)) }
 {
-    let Ok(cert) = Cert::make(parts) else {
+    let Ok(cert) = Cert::make_wide(parts) else {
         return Ok(None);
     };
     match check(alloc, problem, &cert) {
@@ -121,8 +121,8 @@ pub fn proved_optimal(
     let Some(parts) = claimed(alloc, problem, gathered)? else {
         unreachable!("the claim has passed the checker in the proof");
     };
-    let Ok(cert) = Cert::make(parts) else {
-        unreachable!("what the checker lets pass has a text");
+    let Ok(cert) = Cert::make_wide(parts) else {
+        unreachable!("what the checker lets pass is in range");
     };
     Ok(Answer::Optimal(cert))
 }
@@ -238,8 +238,8 @@ pub fn proved_bracket(
     let Some(parts) = bracket_parts(alloc, problem, reason, picks, places, prices)? else {
         unreachable!("the bound has 64 bits");
     };
-    let Ok(cert) = Cert::make(parts) else {
-        unreachable!("what the checker lets pass has a text");
+    let Ok(cert) = Cert::make_wide(parts) else {
+        unreachable!("what the checker lets pass is in range");
     };
     Ok(Answer::Bracket(cert))
 }

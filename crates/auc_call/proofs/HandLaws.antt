@@ -8,7 +8,8 @@ use Rattle.auc_claim.specs.declared.lists.Pick.{Pick}
 use Rattle.auc_claim.specs.declared.reason.Reason.{Reason}
 use Rattle.auc_claim.specs.declared.cert.CertParts.{CertParts}
 use Rattle.auc_claim.specs.Claim.{IsAllowed, chosen, fault_of}
-use Rattle.auc_claim.specs.Spelled.{IsSpelled, most_persons}
+use Rattle.auc_graph.specs.declared.limits.TheConstants.{MOST_PERSONS}
+use Rattle.auc_claim.specs.InRange.{IsInRange}
 use Rattle.auc_answers.specs.Answers.{IsCertified, IsHallCertificate}
 use Rattle.auc_call.specs.Shown.{IsHallAt}
 use Rattle.auc_call.proofs.PlaceLaws.{few}
@@ -30,7 +31,7 @@ bracket_there p cert parts reason lower cost picks slice prices arcs h is arm sa
 -- persons and objects of a Hall set's certificate
 pub record Named (p : Problem) (persons objects : List ℕ) : Type 0 where
   pub set : IsHallSetOf p persons objects
-  pub spelled : IsSpelled (CertParts.Infeasible persons objects)
+  pub in_range : IsInRange (CertParts.Infeasible persons objects)
   pub shown : fault_of p (CertParts.Infeasible persons objects) ≡ None
 
 parts_are : (p q r s : List ℕ) → CertParts.Infeasible p q ≡ CertParts.Infeasible r s → (p ≡ r) × (q ≡ s)
@@ -45,13 +46,13 @@ named p cert parts ps os qs rs h is arm same-p same-o =
     let same = parts_are h.persons h.objects qs rs (sym h.is ∙ e) in
     record {
       set = subst (λ (xs : List ℕ). IsHallSetOf p qs xs) same.1 (subst (λ (xs : List ℕ). IsHallSetOf p xs h.objects) same.0 h.set);
-      spelled = subst IsSpelled e h.certified.spelled;
+      in_range = subst IsInRange e h.certified.in_range;
       shown = subst (λ (c : CertParts). fault_of p c ≡ None) e h.certified.faultless;
     }
 
 pub few_persons : (p : Problem) (persons objects : List ℕ) → Named p persons objects → length persons ≤ p.persons
 few_persons p persons objects n =
-    let h : 0 + length persons ≤ p.persons = few p.persons 0 most_persons persons n.set.set.within n.spelled.persons_rise (omega arith) in
+    let h : 0 + length persons ≤ p.persons = few p.persons 0 MOST_PERSONS persons n.set.set.within n.in_range.persons_rise (omega arith) in
     omega (arith, h)
 
 pub few_objects : (p : Problem) (persons objects : List ℕ) → Named p persons objects → length objects ≤ p.persons
@@ -63,6 +64,6 @@ hall_at p persons objects choice set is n persons_in objects_in front back = rec
   persons_in = persons_in;
   objects_in = objects_in;
   hall = rw (front, back) n.set;
-  spelled = rw (front, back) n.spelled;
+  in_range = rw (front, back) n.in_range;
   shown = rw (front, back) n.shown;
 }

@@ -9,13 +9,13 @@ use Rattle.auc_claim.specs.declared.lists.Pick.{Pick}
 use Rattle.auc_claim.specs.declared.cert.CertParts.{CertParts}
 use Rattle.auc_claim.specs.declared.refused.CertRefused.{CertRefused}
 use Rattle.auc_claim.specs.Claim.{arc_of, chosen, pick_of, choice_faults, first_of, slack_fault, left_over_fault, fault_of}
-use Rattle.auc_claim.specs.Spelled.{IsSpelled}
+use Rattle.auc_claim.specs.InRange.{IsInRange}
 use Rattle.auc_claim.proofs.ClaimLaws.{is_faultless}
 use Rattle.auc_call.specs.declared.found.Found.{Found}
 use Rattle.auc_call.specs.declared.checked.Checked.{Checked}
 use Rattle.auc_call.specs.declared.checked.Checked.TheVariants.{Valid, Invalid}
 use Rattle.auc_call.specs.declared.checked.ClaimFault.{ClaimFault}
-use Rattle.auc_call.specs.declared.checked.ClaimFault.TheVariants.{Misplaced, Unspelled, Refused}
+use Rattle.auc_call.specs.declared.checked.ClaimFault.TheVariants.{Misplaced, OutOfRange, Refused}
 use Rattle.auc_call.specs.declared.solved.Failed.{Failed}
 use Rattle.auc_call.specs.declared.solved.Failed.TheVariants.{Sizes, Fault, Start, NoMemory}
 use Rattle.auc_call.specs.Shown.{IsLeastAt}
@@ -137,9 +137,9 @@ sizes_claim p places prices cost (Err NoMemory) h not_so = absurd (not_so h)
 -- no claim that is shown has a fault
 no_fault : (p : Problem) (places : List ℕ) (prices : List ℤ) (cost : ℤ) (fault : ClaimFault) → IsLeastAt p places prices cost → IsClaimFault p places prices cost fault → ⊥
 no_fault p places prices cost (Misplaced person) l m = m.not_his (take (person + 1) l.picks) (at_take p.arcs (person + 1) 0 places l.picks l.at)
-no_fault p places prices cost Unspelled l c =
+no_fault p places prices cost OutOfRange l c =
     let same : l.picks ≡ c.picks = same_picks 0 l.picks c.picks (sym l.at ∙ c.at) in
-    c.has (subst (λ (xs : List Pick). IsSpelled (CertParts.Optimal cost xs prices)) same l.spelled)
+    c.has (subst (λ (xs : List Pick). IsInRange (CertParts.Optimal cost xs prices)) same l.in_range)
 no_fault p places prices cost (Refused fault) l c =
     let same : l.picks ≡ c.picks = same_picks 0 l.picks c.picks (sym l.at ∙ c.at) in
     none_is_none fault (sym (subst (λ (xs : List Pick). fault_of p (CertParts.Optimal cost xs prices) ≡ None) same l.shown) ∙ c.has)
@@ -178,7 +178,7 @@ hall_refused p persons objects (Err NoMemory) old h e = absurd (omega (arith, ap
 
 no_hall_fault : (p : Problem) (persons objects : List ℕ) (fault : ClaimFault) → IsHallShown p persons objects → IsHallFault p persons objects fault → ⊥
 no_hall_fault p persons objects (Misplaced person) s m = m
-no_hall_fault p persons objects Unspelled s c = c s.spelled
+no_hall_fault p persons objects OutOfRange s c = c s.in_range
 no_hall_fault p persons objects (Refused fault) s c = none_is_none fault (sym s.shown ∙ c)
 
 pub hall_passes : (p : Problem) (persons objects : List ℕ) (r : Result Checked Failed) → ChecksHall p persons objects r → IsHallShown p persons objects → check_status r ≢ pos 6 → check_status r ≡ pos 0

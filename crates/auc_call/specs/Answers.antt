@@ -4,7 +4,7 @@ use Rattle.auc_graph.specs.Problem.{Problem, IsProblem}
 use Rattle.auc_claim.specs.declared.reason.Reason.{Reason}
 use Rattle.auc_claim.specs.declared.cert.CertParts.{CertParts}
 use Rattle.auc_claim.specs.Claim.{fault_of}
-use Rattle.auc_claim.specs.Spelled.{IsSpelled}
+use Rattle.auc_claim.specs.InRange.{IsInRange}
 use Rattle.auc_call.specs.declared.checked.ClaimFault.{ClaimFault}
 use Rattle.auc_call.specs.Shown.{IsBracketAt}
 use Rattle.auc_call.specs.Checking.{IsClaimFault, IsHallFault}
@@ -33,5 +33,5 @@ pub record IsHallFaultTold (p : Problem) (persons objects : List ℕ) (kind plac
 -- the checker sees a Hall set in these numbers, which rise
 pub record IsHallShown (p : Problem) (persons objects : List ℕ) : Type 0 where
   pub problem : IsProblem p
-  pub spelled : IsSpelled (CertParts.Infeasible persons objects)
+  pub in_range : IsInRange (CertParts.Infeasible persons objects)
   pub shown : fault_of p (CertParts.Infeasible persons objects) ≡ None

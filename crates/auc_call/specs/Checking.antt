@@ -8,11 +8,11 @@ use Rattle.auc_claim.specs.declared.lists.Pick.{Pick}
 use Rattle.auc_claim.specs.declared.cert.CertParts.{CertParts}
 use Rattle.auc_claim.specs.declared.refused.CertRefused.{CertRefused}
 use Rattle.auc_claim.specs.Claim.{chosen, fault_of}
-use Rattle.auc_claim.specs.Spelled.{IsSpelled}
+use Rattle.auc_claim.specs.InRange.{IsInRange}
 use Rattle.auc_call.specs.declared.checked.Checked.{Checked}
 use Rattle.auc_call.specs.declared.checked.Checked.TheVariants.{Valid, Invalid}
 use Rattle.auc_call.specs.declared.checked.ClaimFault.{ClaimFault}
-use Rattle.auc_call.specs.declared.checked.ClaimFault.TheVariants.{Misplaced, Unspelled, Refused}
+use Rattle.auc_call.specs.declared.checked.ClaimFault.TheVariants.{Misplaced, OutOfRange, Refused}
 use Rattle.auc_call.specs.declared.solved.Failed.{Failed}
 use Rattle.auc_call.specs.declared.solved.Failed.TheVariants.{Sizes, Fault, Start, NoMemory}
 use Rattle.auc_call.specs.Memory.{AreAt}
@@ -39,13 +39,13 @@ pub record Claims (p : Problem) (places : List ℕ) (prices : List ℤ) (cost : 
 -- a claim has this fault
 abbrev pub IsClaimFault : Problem → List ℕ → List ℤ → ℤ → ClaimFault → Type 0
 IsClaimFault p places prices cost (Misplaced person) = IsMisplaced p.arcs places person
-IsClaimFault p places prices cost Unspelled = Claims p places prices cost (λ claim. IsSpelled claim → ⊥)
+IsClaimFault p places prices cost OutOfRange = Claims p places prices cost (λ claim. IsInRange claim → ⊥)
 IsClaimFault p places prices cost (Refused fault) = Claims p places prices cost (λ claim. fault_of p claim ≡ Some fault)
 
 -- and so has a Hall set
 abbrev pub IsHallFault : Problem → List ℕ → List ℕ → ClaimFault → Type 0
 IsHallFault p persons objects (Misplaced person) = ⊥
-IsHallFault p persons objects Unspelled = IsSpelled (CertParts.Infeasible persons objects) → ⊥
+IsHallFault p persons objects OutOfRange = IsInRange (CertParts.Infeasible persons objects) → ⊥
 IsHallFault p persons objects (Refused fault) = fault_of p (CertParts.Infeasible persons objects) ≡ Some fault
 
 -- what a check of an assignment came to is right
@@ -70,7 +70,7 @@ ChecksHall p persons objects (Err NoMemory) = ⊤
 abbrev pub Told : Option CertRefused → Result Checked Failed → Type 0
 Told found (Ok Valid) = found ≡ None
 Told found (Ok (Invalid (Misplaced person))) = ⊥
-Told found (Ok (Invalid Unspelled)) = ⊥
+Told found (Ok (Invalid OutOfRange)) = ⊥
 Told found (Ok (Invalid (Refused fault))) = found ≡ Some fault
 Told found (Err Sizes) = ⊥
 Told found (Err (Fault fault)) = ⊥

@@ -9,7 +9,7 @@ use Rattle.auc_claim.specs.declared.refused.CertRefused.TheVariants.{WrongSize, 
 use Rattle.auc_call.specs.declared.start.StartFault.{StartFault}
 use Rattle.auc_call.specs.declared.start.StartFault.TheVariants.{NotSquare, OtherSize, Price}
 use Rattle.auc_call.specs.declared.checked.ClaimFault.{ClaimFault}
-use Rattle.auc_call.specs.declared.checked.ClaimFault.TheVariants.{Misplaced, Unspelled, Refused}
+use Rattle.auc_call.specs.declared.checked.ClaimFault.TheVariants.{Misplaced, OutOfRange, Refused}
 
 abbrev pub list_kind : ListFault → ℕ
 list_kind Persons = 1
@@ -69,12 +69,12 @@ refused_place NoMemory = 0
 
 abbrev pub claim_kind : ClaimFault → ℕ
 claim_kind (Misplaced person) = 1
-claim_kind Unspelled = 2
+claim_kind OutOfRange = 2
 claim_kind (Refused fault) = refused_kind fault
 
 abbrev pub claim_place : ClaimFault → ℕ
 claim_place (Misplaced person) = person
-claim_place Unspelled = 0
+claim_place OutOfRange = 0
 claim_place (Refused fault) = refused_place fault
 
 -- there is a fault of the list, of this kind and at this place

@@ -7,7 +7,7 @@ use Rattle.auc_claim.specs.declared.lists.Pick.{Pick}
 use Rattle.auc_claim.specs.declared.reason.Reason.{Reason}
 use Rattle.auc_claim.specs.declared.cert.CertParts.{CertParts}
 use Rattle.auc_claim.specs.Claim.{IsBracket, chosen, fault_of}
-use Rattle.auc_claim.specs.Spelled.{IsSpelled}
+use Rattle.auc_claim.specs.InRange.{IsInRange}
 use Rattle.auc_call.specs.Memory.{AreAt}
 
 -- the arcs at these places are an assignment of this cost, and no assignment costs less; by these prices the checker
@@ -18,7 +18,7 @@ pub record IsLeastAt (p : Problem) (places : List ℕ) (prices : List ℤ) (cost
   pub at : AreAt p.arcs places (chosen 0 picks)
   pub least : IsLeast p (chosen 0 picks)
   pub cost_is : total_cost (chosen 0 picks) ≡ cost
-  pub spelled : IsSpelled (CertParts.Optimal cost picks prices)
+  pub in_range : IsInRange (CertParts.Optimal cost picks prices)
   pub shown : fault_of p (CertParts.Optimal cost picks prices) ≡ None
 
 -- the arcs at these places are an assignment of this cost, and no assignment costs less than the bound; by these prices
@@ -28,7 +28,7 @@ pub record IsBracketAt (p : Problem) (places : List ℕ) (prices : List ℤ) (re
   pub picks : List Pick
   pub at : AreAt p.arcs places (chosen 0 picks)
   pub bracket : IsBracket p lower cost (chosen 0 picks)
-  pub spelled : IsSpelled (CertParts.Bracket reason lower cost picks prices)
+  pub in_range : IsInRange (CertParts.Bracket reason lower cost picks prices)
   pub shown : fault_of p (CertParts.Bracket reason lower cost picks prices) ≡ None
 
 -- the first so many numbers are persons who together know just the first so many objects, which are fewer; the checker
@@ -38,5 +38,5 @@ pub record IsHallAt (p : Problem) (choice set : List ℕ) (persons objects : ℕ
   pub persons_in : persons ≤ length choice
   pub objects_in : objects ≤ length set
   pub hall : IsHallSetOf p (take persons choice) (take objects set)
-  pub spelled : IsSpelled (CertParts.Infeasible (take persons choice) (take objects set))
+  pub in_range : IsInRange (CertParts.Infeasible (take persons choice) (take objects set))
   pub shown : fault_of p (CertParts.Infeasible (take persons choice) (take objects set)) ≡ None

@@ -15,7 +15,7 @@ pub(crate) enum ClaimFault {
     /// The place of this person, the first such, is none of the list, or that of another one's arc.
     Misplaced { person: u32 },
     /// A number is out of range, or the numbers don't rise.
-    Unspelled,
+    OutOfRange,
     /// The checker refuses the claim.
     Refused(CertRefused),
 }

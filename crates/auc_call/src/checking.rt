@@ -53,8 +53,8 @@ pub(crate) fn check_at(
         choice: Picks::new(picks),
         prices: Prices::new(Vec::from_slice(alloc, prices)?),
     };
-    let Ok(cert) = Cert::make(parts) else {
-        return Ok(Checked::Invalid(ClaimFault::Unspelled));
+    let Ok(cert) = Cert::make_wide(parts) else {
+        return Ok(Checked::Invalid(ClaimFault::OutOfRange));
     };
     checked_of(alloc, &problem, &cert)
 }
@@ -74,8 +74,8 @@ pub(crate) fn check_hall_at(
         persons: Indices::new(Vec::from_slice(alloc, hall_persons)?),
         objects: Indices::new(Vec::from_slice(alloc, hall_objects)?),
     };
-    let Ok(cert) = Cert::make(parts) else {
-        return Ok(Checked::Invalid(ClaimFault::Unspelled));
+    let Ok(cert) = Cert::make_wide(parts) else {
+        return Ok(Checked::Invalid(ClaimFault::OutOfRange));
     };
     checked_of(alloc, &problem, &cert)
 }

@@ -105,7 +105,7 @@ pub(crate) fn claim_kind(fault: ClaimFault) -> u32
 {
     match fault {
         ClaimFault::Misplaced { .. } => 1,
-        ClaimFault::Unspelled => 2,
+        ClaimFault::OutOfRange => 2,
         ClaimFault::Refused(refused) => refused_kind(refused),
     }
 }
@@ -116,7 +116,7 @@ pub(crate) fn claim_place(fault: ClaimFault) -> u32
 {
     match fault {
         ClaimFault::Misplaced { person } => person,
-        ClaimFault::Unspelled => 0,
+        ClaimFault::OutOfRange => 0,
         ClaimFault::Refused(refused) => refused_place(refused),
     }
 }

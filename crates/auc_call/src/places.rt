@@ -1,6 +1,7 @@
 //! The places of the arcs that picks name.
 
 ghost use Rattle.std.specs.Prelude.{◌≡◌, ◌≤◌, ◌<◌, true, length, All, Contains};
+ghost use Rattle.auc_graph.specs.declared.limits.TheConstants.{MOST_ARCS};
 ghost use Rattle.auc_claim.specs.Claim.{chosen};
 ghost use Rattle.auc_call.specs.Memory.{AreAt};
 
@@ -30,7 +31,7 @@ fn are_places(arcs: &[Arc], picks: &[Pick], places: &[u32]) -> bool
 
 /// Writes for each person the place of an arc that is his pick, in a pass over the list.
 fn find_places(arcs: &[Arc], picks: &[Pick], choice: &mut [u32])
-    requires few { length arcs.now ≤ 33554432 }
+    requires few { length arcs.now ≤ MOST_ARCS }
     requires persons { All (λ a. a.person < length picks.now) arcs.now }
     requires size { length choice.old ≡ length picks.now }
     requires there { All (Contains arcs.now) (chosen 0 picks.now) }
@@ -49,7 +50,7 @@ fn find_places(arcs: &[Arc], picks: &[Pick], choice: &mut [u32])
 /// Writes for each person the place of an arc that is his pick: the places that came with the picks where they are
 /// right, as those of a solve are, and else what is found in the list.
 pub(crate) fn set_places(arcs: &[Arc], picks: &[Pick], places: Option<&[u32]>, choice: &mut [u32])
-    requires few { length arcs.now ≤ 33554432 }
+    requires few { length arcs.now ≤ MOST_ARCS }
     requires persons { All (λ a. a.person < length picks.now) arcs.now }
     requires size { length choice.old ≡ length picks.now }
     requires there { All (Contains arcs.now) (chosen 0 picks.now) }

@@ -2,7 +2,7 @@
 //! names.
 
 ghost use Rattle.std.specs.Prelude.{◌≡◌, ◌<◌, ◌≤◌, IfSome};
-ghost use Rattle.auc_cert.specs.Fields.{viewed, after, head_at, pick_line_at, price_line_at, number_at};
+ghost use Rattle.auc_cert.specs.Fields.{viewed, head_at, pick_line_at, price_line_at, number_at};
 
 use crate::fields::{field_of, index_of};
 use auc_claim::{Pick, Version};
@@ -53,22 +53,14 @@ pub(crate) fn number_of<'a>(
     Some((index_of(number), rest))
 }
 
-/// The text after this first line.
-#[tactic(auto, unfolding(crate::specs::Fields::after))]
-fn after_head<'a>(bytes: &'a [u8], head: &[u8]) -> Option<&'a [u8]>
-    ensures { viewed (λ x. x.now) result ≡ after head.now bytes.now }
-{
-    bytes.strip_prefix(head)
-}
-
 /// The version on the first line, and the text after the line.
-#[tactic(auto, unfolding(crate::specs::Fields::head_at))]
+#[tactic(auto, unfolding(crate::specs::Fields::head_at, crate::specs::Fields::after))]
 pub(crate) fn head_of(bytes: &[u8]) -> Option<(Version, &[u8])>
     ensures { viewed (λ x. (x.0, x.1.now)) result ≡ head_at bytes.now }
 {
-    if let Some(rest) = after_head(bytes, b"auction 1\n") {
+    if let Some(rest) = bytes.strip_prefix(b"auction 1\n".as_slice()) {
         return Some((Version::First, rest));
     }
-    let rest = after_head(bytes, b"auction 2\n")?;
+    let rest = bytes.strip_prefix(b"auction 2\n".as_slice())?;
     Some((Version::Second, rest))
 }

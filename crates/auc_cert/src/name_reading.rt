@@ -11,7 +11,7 @@ ghost use Rattle.auc_cert.specs.CertReading.{IsFirstBadOf, NameLines};
 use crate::cert_lines::number_of;
 use crate::text_error::CertTextError;
 use auc_claim::{MOST_OBJECTS_IN_FIRST, Version};
-use auc_graph::{Indices, MOST_PERSONS};
+use auc_graph::{Indices, TEXT_PERSONS};
 use std::alloc::Global;
 
 /// The least number that may come after `done` of `count` numbers: `least`, and for the last one at least `last`.
@@ -98,7 +98,7 @@ pub(crate) fn names_of(
     ensures line { AnswersUnless CertTextError.NoMemory (λ x. x) result
         (λ r. IfErr r (NamesLine (From 2 (IsFirstBadOf (NameLines version persons objects) bytes.now)))) }
 {
-    let (named, rest) = rising_of(alloc, b"person ", MOST_PERSONS, 0, persons, 2, bytes)?;
+    let (named, rest) = rising_of(alloc, b"person ", TEXT_PERSONS, 0, persons, 2, bytes)?;
     let (known, rest) = rising_of(
         alloc,
         b"object ",

@@ -8,7 +8,7 @@ ghost use Rattle.auc_cert.specs.SecondLine.{least_named};
 use crate::fields::{field_of, word_before};
 use crate::words::reason_of_word;
 use auc_claim::{MOST_NAMED, Reason, Version};
-use auc_graph::{MOST_OBJECTS, MOST_PERSONS};
+use auc_graph::{TEXT_OBJECTS, TEXT_PERSONS};
 
 /// The content of a second line.
 pub(crate) enum SecondLine {
@@ -40,7 +40,7 @@ fn objects_of(bytes: &[u8], version: Version, persons: u32) -> Option<(u32, &[u8
         Version::First => Some((persons, bytes)),
         Version::Second => {
             let least = persons as i64 + 1;
-            let (objects, rest) = field_of(bytes, b"", least, MOST_OBJECTS as i64, b' ')?;
+            let (objects, rest) = field_of(bytes, b"", least, TEXT_OBJECTS as i64, b' ')?;
             Some((objects as u32, rest))
         }
     }
@@ -51,7 +51,7 @@ fn objects_of(bytes: &[u8], version: Version, persons: u32) -> Option<(u32, &[u8
 fn optimal_of(bytes: &[u8], version: Version) -> Option<(SecondLine, &[u8])>
     ensures { viewed (λ x. (x.0, x.1.now)) result ≡ optimal_at version bytes.now }
 {
-    let (persons, rest) = field_of(bytes, b"optimal ", 1, MOST_PERSONS as i64, b' ')?;
+    let (persons, rest) = field_of(bytes, b"optimal ", 1, TEXT_PERSONS as i64, b' ')?;
     let persons = persons as u32;
     let (objects, rest) = objects_of(rest, version, persons)?;
     let (cost, rest) = field_of(rest, b"", i64::MIN, i64::MAX, b'\n')?;
@@ -78,7 +78,7 @@ fn least_named(version: Version) -> i64
 fn infeasible_of(bytes: &[u8], version: Version) -> Option<(SecondLine, &[u8])>
     ensures { viewed (λ x. (x.0, x.1.now)) result ≡ infeasible_at version bytes.now }
 {
-    let (persons, rest) = field_of(bytes, b"infeasible ", 1, MOST_PERSONS as i64, b' ')?;
+    let (persons, rest) = field_of(bytes, b"infeasible ", 1, TEXT_PERSONS as i64, b' ')?;
     let least = least_named(version);
     let (objects, rest) = field_of(rest, b"", least, MOST_NAMED as i64, b'\n')?;
     let line = SecondLine::Infeasible {
@@ -96,7 +96,7 @@ fn bracket_of(bytes: &[u8], version: Version) -> Option<(SecondLine, &[u8])>
     let rest = bytes.strip_prefix(b"bracket ")?;
     let (word, rest) = word_before(rest, b' ')?;
     let reason = reason_of_word(word)?;
-    let (persons, rest) = field_of(rest, b"", 1, MOST_PERSONS as i64, b' ')?;
+    let (persons, rest) = field_of(rest, b"", 1, TEXT_PERSONS as i64, b' ')?;
     let persons = persons as u32;
     let (objects, rest) = objects_of(rest, version, persons)?;
     let (lower, rest) = field_of(rest, b"", i64::MIN, i64::MAX, b' ')?;

@@ -26,7 +26,7 @@ use Rattle.auc_claim.proofs.HallLaws.{hall_set_is, hall_set_passes}
 use Rattle.auc_graph.specs.Assignment.{person_of, object_of, total_cost, IsAssignment}
 use Rattle.auc_graph.specs.Dual.{price_at, arc_value, scale_of, dual, is_lower, IsSlackRight, IsNoPriceLeft}
 use mathlib.Core.Bool.{beq}
-use Rattle.auc_claim.specs.Spelled.{IsSpelled}
+use Rattle.auc_claim.specs.InRange.{IsInRange}
 use Rattle.auc_claim.specs.Claim.{is_flag, arc_of, chosen, same_arc, is_missing, is_slack_beside, is_slack_right, repeated, fault_if, is_sized, choice_faults, slack_fault, picked, is_left_over, left_over_fault, bound_fault, first_of, fault_of, IsAllowed, IsVerdict, is_hall}
 use Rattle.auc_graph.proofs.PriceLaws.{not_negative}
 use Rattle.auc_graph.proofs.DualLaws.{dual_is_below, slack_right_is_least}
@@ -126,7 +126,7 @@ right_at s prices (a ∷ arcs) c h =
     let both = and_both (is_slack_beside s prices c a) (list_all (is_slack_beside s prices c) arcs) h in
     All-cons (λ (b : Arc). b.person ≡ c.person → arc_value s prices c ≤ℤ (arc_value s prices b +ℤ pos 1)) a arcs (not_worse s prices c a both.0) (right_at s prices arcs c both.1)
 
-not_false : (b : Bool) → not b ≡ false → b ≡ true
+pub not_false : (b : Bool) → not b ≡ false → b ≡ true
 not_false true h = refl
 not_false false h = absurd cc
 
@@ -162,7 +162,7 @@ pub record IsFaultless (p : Problem) (cost : ℤ) (choice : List Pick) (prices :
   pub twice : repeated [] (map (λ c. c.object) choice) ≡ None
   pub cost_is : cost ≡ total_cost (chosen 0 choice)
 
-none_if : (b : Bool) (e : CertRefused) (faults : List (Option CertRefused)) → first_of (fault_if b e ∷ faults) ≡ None → (b ≡ false) × (first_of faults ≡ None)
+pub none_if : (b : Bool) (e : CertRefused) (faults : List (Option CertRefused)) → first_of (fault_if b e ∷ faults) ≡ None → (b ≡ false) × (first_of faults ≡ None)
 none_if true e faults h = absurd cc
 none_if false e faults h = (refl, h)
 
@@ -240,7 +240,7 @@ behind_none [] ys h = refl
 behind_none (None ∷ xs) ys h = behind_none xs ys h
 behind_none (Some x ∷ xs) ys h = absurd cc
 
-none_in_front : (xs ys : List (Option CertRefused)) → first_of (xs ++ ys) ≡ None → (first_of xs ≡ None) × (first_of ys ≡ None)
+pub none_in_front : (xs ys : List (Option CertRefused)) → first_of (xs ++ ys) ≡ None → (first_of xs ≡ None) × (first_of ys ≡ None)
 none_in_front [] ys h = (refl, h)
 none_in_front (None ∷ xs) ys h = none_in_front xs ys h
 none_in_front (Some x ∷ xs) ys h = absurd cc
@@ -259,8 +259,8 @@ pub verdict_second : {X : Type 0} (r : Result X CertRefused) (x y : Option CertR
 verdict_second r x y none h = verdict_behind r (x ∷ []) (y ∷ []) none h
 
 -- a claim without a fault is allowed
-pub faultless_is_allowed : (p : Problem) (c : CertParts) → IsProblem p → IsSpelled c → fault_of p c ≡ None → IsAllowed p c
-faultless_is_allowed p (Optimal cost choice prices) is spelled none =
+pub faultless_is_allowed : (p : Problem) (c : CertParts) → IsProblem p → IsInRange c → fault_of p c ≡ None → IsAllowed p c
+faultless_is_allowed p (Optimal cost choice prices) is in_range none =
     let parts = none_in_front (choice_faults p cost choice prices) (slack_fault p choice prices ∷ left_over_fault choice prices ∷ []) none in
     let choice_is = is_faultless p cost choice prices parts.0 in
     let given = is_assigned p cost choice prices choice_is in
@@ -269,11 +269,11 @@ faultless_is_allowed p (Optimal cost choice prices) is spelled none =
     let right : All (IsSlackRight (pos 1) (scale_of p) prices p.arcs) (chosen 0 choice) =
     λ k d lt. right_at (scale_of p) prices p.arcs (get_or (chosen 0 choice) k d) (not_false _ (all_fail (λ c. not (is_slack_right (scale_of p) prices p.arcs c)) (chosen 0 choice) slack.0 k d lt)) in
     let left = none_priced choice prices over.0 in
-    (slack_right_is_least p prices (chosen 0 choice) is.within choice_is.priced (not_negative prices spelled.1.fair) given right left, sym choice_is.cost_is)
-faultless_is_allowed p (Infeasible persons objects) is spelled none =
+    (slack_right_is_least p prices (chosen 0 choice) is.within choice_is.priced (not_negative prices in_range.1.fair) given right left, sym choice_is.cost_is)
+faultless_is_allowed p (Infeasible persons objects) is in_range none =
     let passed = none_if (not (is_hall p persons objects)) NotHall [] none in
-    hall_set_is p persons objects spelled (not_false (is_hall p persons objects) passed.0)
-faultless_is_allowed p (Bracket reason lower cost choice prices) is spelled none =
+    hall_set_is p persons objects in_range (not_false (is_hall p persons objects) passed.0)
+faultless_is_allowed p (Bracket reason lower cost choice prices) is in_range none =
     let parts = none_in_front (choice_faults p cost choice prices) (bound_fault p lower prices ∷ []) none in
     let choice_is = is_faultless p cost choice prices parts.0 in
     let bound = none_if (not (is_lower (scale_of p) (dual p prices) lower)) WrongBound [] parts.1 in
@@ -281,7 +281,7 @@ faultless_is_allowed p (Bracket reason lower cost choice prices) is spelled none
     record {
       assignment = is_assigned p cost choice prices choice_is;
       cost_is = sym choice_is.cost_is;
-      bound = λ other others. least.least (total_cost other) (dual_is_below p prices is.within choice_is.priced other others (not_negative prices spelled.2.fair));
+      bound = λ other others. least.least (total_cost other) (dual_is_below p prices is.within choice_is.priced other others (not_negative prices in_range.2.fair));
     }
 
 -- the checker finds no fault in a Hall set

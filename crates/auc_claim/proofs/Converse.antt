@@ -21,9 +21,9 @@ use Rattle.std.proofs.lemmas.Map.Views.{list_any-from_Contains}
 use Rattle.auc_graph.proofs.LowerLaws.{lower_passes}
 use Rattle.auc_graph.proofs.LowerRange.{lower_fits}
 use Rattle.auc_graph.specs.Price.{IsPrice}
-use Rattle.auc_claim.specs.declared.version.Version.{Version}
-use Rattle.auc_claim.specs.Spelled.{most_in, version_of_sizes, choice_version, IsPick, IsSpelled}
-use Rattle.auc_claim.proofs.VersionLaws.{sized_first}
+use Rattle.auc_claim.specs.InRange.{IsInRange}
+use Rattle.auc_claim.specs.Spelled.{IsPick}
+use Rattle.auc_graph.specs.declared.limits.TheConstants.{MOST_OBJECTS}
 use Rattle.auc_claim.specs.Claim.{arc_of, pick_of, chosen, same_arc, is_missing, is_slack_beside, is_slack_right, repeated, is_sized, choice_faults, slack_fault, picked, is_left_over, left_over_fault, bound_fault, first_of, fault_of}
 use Rattle.auc_claim.proofs.ClaimLaws.{no_place, objects_are, right_size, right_cost, behind_none}
 
@@ -147,7 +147,7 @@ module _ (p : Problem) (choice : List Arc) (given : IsAssignment p choice) (pric
       let passes = lower_passes p.persons (dual p prices) lower is in
       behind_none (choice_faults p cost (map pick_of choice) prices) (bound_fault p lower prices ∷ []) choice_faultless ∙ rw passes refl
 
--- ---- and has a text
+-- ---- and is in range
 
 picks_are : (most m n : ℕ) (arcs choice : List Arc) → n ≤ most → All (IsWithin m n) arcs → All (Contains arcs) choice → All (IsPick most) (map pick_of choice)
 picks_are most m n arcs [] few within known = All-nil (IsPick most)
@@ -169,37 +169,28 @@ costs_between m n arcs (a ∷ choice) within known =
     let high = w.high in
     (omega (arith, ints, rest.0, low), omega (arith, ints, rest.1, high))
 
--- the version of a claim can number the problem's objects
-within_version : (n m persons objects : ℕ) → n ≡ persons → m ≡ objects → persons ≤ 10000 → objects ≤ 20000 → objects ≤ most_in (version_of_sizes n m)
-within_version n m persons objects size len most few =
-    elim (cases_eq m n) [
-      | inl same ↦ subst (λ (v : Version). objects ≤ most_in v) (sym (sized_first n m same)) (omega arith)
-      | inr other ↦ (let t : eqb m n ≡ false = ne_eqb m n other in rw t few)
-    ]
-
-pub assignment_spelled : (p : Problem) (choice : List Arc) (prices : List ℤ) → IsProblem p → IsAssignment p choice → length prices ≡ p.objects → All IsPrice prices → IsSpelled (Optimal (total_cost choice) (map pick_of choice) prices)
-assignment_spelled p choice prices is given len fair =
+pub assignment_in_range : (p : Problem) (choice : List Arc) (prices : List ℤ) → IsProblem p → IsAssignment p choice → length prices ≡ p.objects → All IsPrice prices → IsInRange (Optimal (total_cost choice) (map pick_of choice) prices)
+assignment_in_range p choice prices is given len fair =
     let size : length (map pick_of choice) ≡ p.persons = many p choice given prices len (total_cost choice) refl in
     let arcs : length choice ≡ p.persons = sym (length-map choice pick_of) ∙ size in
     let both = costs_between p.persons p.objects p.arcs choice is.within given.arcs in
     let some = is.some in
     let most = is.most in
     let enough = is.enough in
-    let most_objects = is.most_objects in
-    let numbered : p.objects ≤ most_in (choice_version (map pick_of choice) prices) = within_version (length (map pick_of choice)) (length prices) p.persons p.objects size len most most_objects in (
+    let most_objects = is.most_objects in (
       omega (arith, ints, both.0, both.1, arcs, most),
       record {
         some = omega (arith, size, some);
         most = omega (arith, size, most);
         enough = omega (arith, len, enough, size);
         few = omega (arith, len, most_objects);
-        picks = picks_are (most_in (choice_version (map pick_of choice) prices)) p.persons p.objects p.arcs choice numbered is.within given.arcs;
+        picks = picks_are MOST_OBJECTS p.persons p.objects p.arcs choice most_objects is.within given.arcs;
         fair = fair;
       },
     )
 
-pub bracket_spelled : (p : Problem) (choice : List Arc) (prices : List ℤ) (lower : ℤ) (reason : Reason) → IsProblem p → IsAssignment p choice → length prices ≡ p.objects → All IsPrice prices → AreFewPriced p prices → IsLower (scale_of p) (dual p prices) lower
-    → IsSpelled (Bracket reason lower (total_cost choice) (map pick_of choice) prices)
-bracket_spelled p choice prices lower reason is given len fair priced least =
-    let spelled = assignment_spelled p choice prices is given len fair in
-    (lower_fits p prices choice lower is.most is.within len fair priced given least, spelled.0, spelled.1)
+pub bracket_in_range : (p : Problem) (choice : List Arc) (prices : List ℤ) (lower : ℤ) (reason : Reason) → IsProblem p → IsAssignment p choice → length prices ≡ p.objects → All IsPrice prices → AreFewPriced p prices → IsLower (scale_of p) (dual p prices) lower
+    → IsInRange (Bracket reason lower (total_cost choice) (map pick_of choice) prices)
+bracket_in_range p choice prices lower reason is given len fair priced least =
+    let in_range = assignment_in_range p choice prices is given len fair in
+    (lower_fits p prices choice lower is.most is.within len fair priced given least, in_range.0, in_range.1)

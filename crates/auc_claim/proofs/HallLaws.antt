@@ -11,8 +11,9 @@ use Rattle.auc_graph.specs.Problem.{Problem, IsProblem, IsWithin}
 use Rattle.auc_graph.specs.HallSet.{IsHallSet}
 use Rattle.auc_graph.specs.Rising.{IsRising, Rises}
 use Rattle.auc_graph.proofs.RisingLaws.{rising_differ}
-use Rattle.auc_claim.specs.Spelled.{AreNamed}
+use Rattle.auc_claim.specs.InRange.{AreNamesInRange}
 use Rattle.auc_claim.specs.Claim.{are_below, is_listed, stays_within, is_hall, AreListed}
+use Rattle.auc_graph.specs.declared.limits.TheConstants.{MOST_OBJECTS, MOST_PERSONS}
 use Rattle.auc_claim.specs.Spelled.{IsBelow}
 use Rattle.auc_claim.proofs.RisingLaws.{is_rising, rises_from, rises_room}
 
@@ -66,14 +67,14 @@ known_from true c h = h refl
 known_from false c h = refl
 
 -- persons and objects that pass the test are a Hall set of the problem
-pub hall_set_is : (p : Problem) (persons objects : List ℕ) → AreNamed persons objects → is_hall p persons objects ≡ true → IsHallSet p persons objects
+pub hall_set_is : (p : Problem) (persons objects : List ℕ) → AreNamesInRange persons objects → is_hall p persons objects ≡ true → IsHallSet p persons objects
 hall_set_is p persons objects named h =
     let outer = and_parts (are_below p.persons persons && are_below p.objects objects) (nat_lt (length objects) (length persons) && list_all (stays_within persons objects) p.arcs) h in
     let below = and_parts (are_below p.persons persons) (are_below p.objects objects) outer.0 in
     let inner = and_parts (nat_lt (length objects) (length persons)) (list_all (stays_within persons objects) p.arcs) outer.1 in
     record {
       within = λ i c. less_is i p.persons (passes (λ k. nat_lt k p.persons) persons i below.0 c);
-      different = rising_differ persons (is_rising 0 10000 persons named.persons_rise);
+      different = rising_differ persons (is_rising 0 MOST_PERSONS persons named.persons_rise);
       all = λ a c his. listed_is objects a.object (known_of (is_listed persons a.person) (is_listed objects a.object) (passes (stays_within persons objects) p.arcs a inner.1 c) (is_in_list persons a.person his));
       fewer = less_is (length objects) (length persons) inner.0;
     }
@@ -92,22 +93,22 @@ all_contained most n (k ∷ numbers) h le =
     let here : k < n = h k (0, omega arith, refl) in
     All-cons (IsBelow most) k numbers (omega arith) (all_contained most n numbers (λ j c. h j (suc c.0, omega (arith, c.1), c.2)) le)
 
-none_below_0 : (numbers : List ℕ) → All (λ k. 0 ≤ k) numbers
+pub none_below_0 : (numbers : List ℕ) → All (λ k. 0 ≤ k) numbers
 none_below_0 numbers i d lt = omega arith
 
 -- a Hall set of the problem, named in rising order, has a certificate
-pub hall_set_named : (p : Problem) (persons objects : List ℕ) → IsProblem p → IsHallSet p persons objects → IsRising persons → IsRising objects → ((j : ℕ) → Contains objects j → j < p.objects) → AreNamed persons objects
-hall_set_named p persons objects is s persons_rise objects_rise within =
-    let most : p.persons ≤ 10000 = is.most in
-    let most_objects : p.objects ≤ 20000 = is.most_objects in
+pub hall_set_in_range : (p : Problem) (persons objects : List ℕ) → IsProblem p → IsHallSet p persons objects → IsRising persons → IsRising objects → ((j : ℕ) → Contains objects j → j < p.objects) → AreNamesInRange persons objects
+hall_set_in_range p persons objects is s persons_rise objects_rise within =
+    let most : p.persons ≤ MOST_PERSONS = is.most in
+    let most_objects : p.objects ≤ MOST_OBJECTS = is.most_objects in
     let fewer : length objects < length persons = s.fewer in
-    let rises : Rises 0 10000 persons = rises_from 0 10000 persons (none_below_0 persons) (all_contained 10000 p.persons persons s.within most) persons_rise in
-    let room : 0 + length persons ≤ 10000 = rises_room 0 10000 persons (omega arith) rises in
+    let rises : Rises 0 MOST_PERSONS persons = rises_from 0 MOST_PERSONS persons (none_below_0 persons) (all_contained MOST_PERSONS p.persons persons s.within most) persons_rise in
+    let room : 0 + length persons ≤ MOST_PERSONS = rises_room 0 MOST_PERSONS persons (omega arith) rises in
     record {
       some = omega arith;
       few = omega arith;
       persons_rise = rises;
-      objects_rise = rises_from 0 20000 objects (none_below_0 objects) (all_contained 20000 p.objects objects within most_objects) objects_rise;
+      objects_rise = rises_from 0 MOST_OBJECTS objects (none_below_0 objects) (all_contained MOST_OBJECTS p.objects objects within most_objects) objects_rise;
     }
 
 same_all : {X : Type 0} (f g : X → Bool) (xs : List X) → ((x : X) → Contains xs x → f x ≡ g x) → list_all f xs ≡ list_all g xs

@@ -5,6 +5,7 @@ pub mod Converse
 pub mod RisingLaws
 pub mod VersionLaws
 pub mod StartLaws
+pub mod RangeLaws
 -- for this crate
 mod CostSums
 mod ValueLaws

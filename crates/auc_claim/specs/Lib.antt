@@ -1,3 +1,4 @@
 pub mod Spelled
+pub mod InRange
 pub mod Claim
 pub mod Start

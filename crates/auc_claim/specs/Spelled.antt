@@ -9,7 +9,7 @@ use Rattle.auc_claim.specs.declared.version.Version.TheVariants.{First, Second}
 use Rattle.auc_claim.specs.declared.cert.CertParts.{CertParts}
 use Rattle.auc_claim.specs.declared.cert.CertParts.TheVariants.{Optimal, Infeasible, Bracket}
 
--- the most persons and the most objects that a certificate can number
+-- the most persons and the most objects that a certificate's text can number
 abbrev pub most_persons : ℕ
 most_persons = 10000
 
@@ -50,21 +50,28 @@ pub record IsPick (most : ℕ) (p : Pick) : Type 0 where
   pub low : neg_ℤ (pos (10 ^ 9)) ≤ℤ p.cost
   pub high : p.cost ≤ℤ pos (10 ^ 9)
 
--- A pick for each person and a price for each object. There may be more objects than persons.
-pub record IsChoice (choice : List Pick) (prices : List ℤ) : Type 0 where
+-- A pick for each person and a price for each object, at most so many of each; a pick's object is below the last number.
+-- There may be more objects than persons.
+pub record IsChoiceWithin (persons objects object : ℕ) (choice : List Pick) (prices : List ℤ) : Type 0 where
   pub some : 1 ≤ length choice
-  pub most : length choice ≤ most_persons
+  pub most : length choice ≤ persons
   pub enough : length choice ≤ length prices
-  pub few : length prices ≤ most_objects
-  pub picks : All (IsPick (most_in (choice_version choice prices))) choice
+  pub few : length prices ≤ objects
+  pub picks : All (IsPick object) choice
   pub fair : All IsPrice prices
 
--- at least one person is named, and both lists rise
-pub record AreNamed (persons objects : List ℕ) : Type 0 where
+-- at least one person is named and no more objects than `most`, and both lists rise below their ends
+pub record AreNamedWithin (most end_of_persons end_of_objects : ℕ) (persons objects : List ℕ) : Type 0 where
   pub some : 1 ≤ length persons
-  pub few : length objects ≤ most_named
-  pub persons_rise : Rises 0 most_persons persons
-  pub objects_rise : Rises 0 most_objects objects
+  pub few : length objects ≤ most
+  pub persons_rise : Rises 0 end_of_persons persons
+  pub objects_rise : Rises 0 end_of_objects objects
+
+abbrev pub IsChoice : List Pick → List ℤ → Type 0
+IsChoice choice prices = IsChoiceWithin most_persons most_objects (most_in (choice_version choice prices)) choice prices
+
+abbrev pub AreNamed : List ℕ → List ℕ → Type 0
+AreNamed persons objects = AreNamedWithin most_named most_persons most_objects persons objects
 
 -- the certificate has a text: its numbers are in range, and its lists have the sizes and the order of the format
 abbrev pub IsSpelled : CertParts → Type 0

@@ -1,11 +1,13 @@
-//! Certificates: claims that have a text.
+//! Certificates: claims whose numbers are in range.
 
 ghost use Rattle.std.specs.Prelude.{◌≡◌, ◌≤◌, ◌<◌, ◌↔◌, IsOk, IsTrue, MatchResult, length, All};
 ghost use Rattle.auc_graph.specs.Rising.{Rises};
 ghost use Rattle.auc_graph.specs.Price.{IsPrice};
-ghost use Rattle.auc_claim.specs.Spelled.{IsPick, IsChoice, AreNamed};
+ghost use Rattle.auc_claim.specs.Spelled.{AreNamedWithin, IsChoiceWithin, IsPick};
 
-use crate::limits::{MOST_COST, MOST_NAMED, MOST_OBJECTS, MOST_PERSONS, MOST_PRICE};
+use crate::limits::{
+    MOST_COST, MOST_NAMED, MOST_OBJECTS, MOST_PERSONS, MOST_PRICE, TEXT_OBJECTS, TEXT_PERSONS,
+};
 use crate::lists::{Pick, Picks, Prices};
 use crate::reason::Reason;
 use crate::version::Version;
@@ -39,8 +41,7 @@ pub enum CertParts {
     },
 }
 
-/// A claim whose numbers a certificate's text can spell. Whether it is true of a problem is for
-/// [`check`](crate::check).
+/// A claim whose numbers are those of some problem. Whether it is true of a problem is for [`check`](crate::check).
 #[derive(Debug, Drop)]
 pub struct Cert {
     parts: CertParts,
@@ -53,9 +54,9 @@ impl Model for Cert {
 
     ghost view = { λ a. a.parts };
 
-    ghost use Rattle.auc_claim.specs.Spelled.{IsSpelled};
+    ghost use Rattle.auc_claim.specs.InRange.{IsInRange};
 
-    ghost invariant = { λ a. IsSpelled a.parts };
+    ghost invariant = { λ a. IsInRange a.parts };
 }
 
 fn are_picks(picks: &[Pick], most: u32) -> bool
@@ -70,15 +71,15 @@ fn are_prices(prices: &[i64]) -> bool
     prices.iter().all(|p| 0 <= *p && *p <= MOST_PRICE)
 }
 
-fn is_choice(choice: &[Pick], prices: &[i64]) -> bool
-    ensures { IsTrue result ↔ IsChoice choice.now prices.now }
+/// Whether these are picks and prices, at most so many, with each pick's object below the last number.
+fn is_choice(persons: u32, objects: u32, object: u32, choice: &[Pick], prices: &[i64]) -> bool
+    ensures { IsTrue result ↔ IsChoiceWithin persons objects object choice.now prices.now }
 {
-    let most = Version::of_sizes(choice.len(), prices.len()).most_objects();
     !choice.is_empty()
-        && choice.len() <= MOST_PERSONS as usize
+        && choice.len() <= persons as usize
         && choice.len() <= prices.len()
-        && prices.len() <= MOST_OBJECTS as usize
-        && are_picks(choice, most)
+        && prices.len() <= objects as usize
+        && are_picks(choice, object)
         && are_prices(prices)
 }
 
@@ -96,16 +97,18 @@ fn do_rise(numbers: &[u32], end: u32) -> bool
     true
 }
 
-fn are_named(persons: &[u32], objects: &[u32]) -> bool
-    ensures { IsTrue result ↔ AreNamed persons.now objects.now }
+/// Whether persons are named and no more objects than `most`, in rising order below these ends.
+fn are_named(most: u32, ends: (u32, u32), persons: &[u32], objects: &[u32]) -> bool
+    ensures { IsTrue result ↔ AreNamedWithin most ends.0 ends.1 persons.now objects.now }
 {
     !persons.is_empty()
-        && objects.len() <= MOST_NAMED as usize
-        && do_rise(persons, MOST_PERSONS)
-        && do_rise(objects, MOST_OBJECTS)
+        && objects.len() <= most as usize
+        && do_rise(persons, ends.0)
+        && do_rise(objects, ends.1)
 }
 
 impl Cert {
+    ghost use Rattle.auc_claim.specs.InRange.{IsInRange};
     ghost use Rattle.auc_claim.specs.Spelled.{IsSpelled};
 
     /// The certificate of these parts. The parts are returned where no text spells them:
@@ -124,12 +127,43 @@ impl Cert {
     {
         let is_spelled = match &parts {
             CertParts::Optimal { choice, prices, .. } | CertParts::Bracket { choice, prices, .. } =>
-                { is_choice(choice.as_slice(), prices.as_slice()) }
+                {
+                    let (choice, prices) = (choice.as_slice(), prices.as_slice());
+                    let most = Version::of_sizes(choice.len(), prices.len()).most_objects();
+                    is_choice(TEXT_PERSONS, TEXT_OBJECTS, most, choice, prices)
+                }
             CertParts::Infeasible { persons, objects } => {
-                are_named(persons.as_slice(), objects.as_slice())
+                let ends = (TEXT_PERSONS, TEXT_OBJECTS);
+                are_named(MOST_NAMED, ends, persons.as_slice(), objects.as_slice())
             }
         };
         if is_spelled {
+            Ok(Cert::of(parts))
+        } else {
+            Err(parts)
+        }
+    }
+
+    /// The certificate of these parts, also of a problem that is too wide for a text. The parts are returned where
+    /// [`Cert::make`] returns them, with 4,194,304 in place of 10,000 and of 20,000.
+    ///
+    /// Takes O(persons + objects) time and no memory.
+    pub fn make_wide(parts: CertParts) -> Result<Cert, CertParts>
+        ensures ok { IsOk result ↔ IsInRange parts }
+        ensures same { MatchResult result (λ c. c ≡ parts) (λ e. e ≡ parts) }
+    {
+        let is_in_range = match &parts {
+            CertParts::Optimal { choice, prices, .. } | CertParts::Bracket { choice, prices, .. } =>
+                {
+                    let (choice, prices) = (choice.as_slice(), prices.as_slice());
+                    is_choice(MOST_PERSONS, MOST_OBJECTS, MOST_OBJECTS, choice, prices)
+                }
+            CertParts::Infeasible { persons, objects } => {
+                let ends = (MOST_PERSONS, MOST_OBJECTS);
+                are_named(MOST_PERSONS, ends, persons.as_slice(), objects.as_slice())
+            }
+        };
+        if is_in_range {
             Ok(Cert { parts })
         } else {
             Err(parts)
@@ -147,7 +181,7 @@ impl Cert {
     /// The claim of the certificate.
     pub fn parts(&self) -> &CertParts
         ensures is { result.now ≡ self.now }
-        ensures spelled { IsSpelled self.now }
+        ensures in_range { IsInRange self.now }
     {
         &self.parts
     }

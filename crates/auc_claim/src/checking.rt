@@ -7,7 +7,7 @@ ghost use Rattle.auc_graph.specs.Problem.{IsProblem};
 ghost use Rattle.auc_graph.specs.Price.{IsPrice};
 ghost use Rattle.auc_graph.specs.Dual.{EachHasArc};
 ghost use Rattle.auc_claim.specs.declared.reason.Reason.{Reason};
-ghost use Rattle.auc_claim.specs.Spelled.{IsChoice, AreNamed};
+ghost use Rattle.auc_claim.specs.InRange.{AreNamesInRange, IsChoiceInRange};
 ghost use Rattle.auc_claim.specs.Claim.{chosen, is_missing, is_sized, choice_faults, slack_fault, left_over_fault};
 ghost use Rattle.auc_claim.specs.Claim.{bound_fault, fault_of, first_of, IsVerdict, IsAllowed};
 
@@ -127,7 +127,7 @@ fn check_optimal(
     choice: &[Pick],
     prices: &[i64],
 ) -> Result<(), CertRefused>
-    requires { IsChoice choice.now prices.now }
+    requires { IsChoiceInRange choice.now prices.now }
     ensures exact { AnswersUnless CertRefused.NoMemory (λ x. x) result
         (IsVerdict (fault_of problem.now (CertParts.Optimal cost choice.now prices.now))) }
     ensures allowed { IsOk result → IsAllowed problem.now (CertParts.Optimal cost choice.now prices.now) }
@@ -148,7 +148,7 @@ fn check_infeasible(
     persons: &[u32],
     objects: &[u32],
 ) -> Result<(), CertRefused>
-    requires { AreNamed persons.now objects.now }
+    requires { AreNamesInRange persons.now objects.now }
     ensures exact { AnswersUnless CertRefused.NoMemory (λ x. x) result
         (IsVerdict (fault_of problem.now (CertParts.Infeasible persons.now objects.now))) }
     ensures allowed { IsOk result → IsAllowed problem.now (CertParts.Infeasible persons.now objects.now) }
@@ -168,7 +168,7 @@ fn check_bracket(
     choice: &[Pick],
     prices: &[i64],
 ) -> Result<(), CertRefused>
-    requires { IsChoice choice.now prices.now }
+    requires { IsChoiceInRange choice.now prices.now }
     ensures exact { (reason : Reason)
         → AnswersUnless CertRefused.NoMemory (λ x. x) result
         (IsVerdict (fault_of problem.now (CertParts.Bracket reason lower cost choice.now prices.now))) }

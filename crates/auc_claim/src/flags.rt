@@ -7,7 +7,7 @@ ghost use Rattle.auc_graph.specs.Problem.{IsWithin};
 ghost use Rattle.auc_graph.specs.declared.limits.TheConstants.{MOST_PERSONS, MOST_COST};
 ghost use Rattle.auc_graph.specs.Price.{IsPrice};
 ghost use Rattle.auc_graph.specs.Dual.{price_at, arc_value};
-ghost use Rattle.auc_claim.specs.Spelled.{IsChoice};
+ghost use Rattle.auc_claim.specs.InRange.{IsChoiceInRange};
 ghost use Rattle.auc_claim.specs.Claim.{arc_of, pick_value, chosen, same_arc, is_missing, is_slack_beside};
 ghost use Rattle.auc_claim.specs.Claim.{is_slack_right, AreFlags, is_flag};
 
@@ -159,7 +159,7 @@ fn pick_values(
     prices: &[i64],
 ) -> Result<Vec<i64>, AllocError>
     requires scale { scale ≤ MOST_PERSONS + 1 }
-    requires choice { IsChoice choice.now prices.now }
+    requires choice { IsChoiceInRange choice.now prices.now }
     ensures { IfOk result (λ v. v.items ≡ map (pick_value scale prices.now) choice.now) }
 {
     let mut values = Vec::with_capacity(alloc, choice.len())?;
@@ -191,7 +191,7 @@ pub(crate) fn first_look(
     arcs: &[Arc],
 ) -> Result<(Option<u32>, bool), AllocError>
     requires scale { scale ≤ MOST_PERSONS + 1 }
-    requires choice { IsChoice choice.now prices.now }
+    requires choice { IsChoiceInRange choice.now prices.now }
     requires arcs { All (IsWithin (length choice.now) (length prices.now)) arcs.now }
     ensures missing { IfOk result (λ x. x.0 ≡ position (is_missing arcs.now) (chosen 0 choice.now)) }
     ensures slack { IfOk result

@@ -22,7 +22,10 @@ mod version;
 
 pub use cert::{Cert, CertParts};
 pub use checking::check;
-pub use laws::{assignments_pass, brackets_pass, faultless_claims_are_allowed, hall_sets_pass};
+pub use laws::{
+    assignments_pass, brackets_pass, faultless_claims_are_allowed, faultless_claims_are_spelled,
+    hall_sets_pass,
+};
 pub use limits::{HIGHEST_START, MOST_NAMED, MOST_OBJECTS_IN_FIRST};
 pub use lists::{Pick, Picks, Prices};
 pub use picks::cost_of;

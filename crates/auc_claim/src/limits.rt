@@ -1,6 +1,8 @@
 //! The limits of a certificate.
 
-pub(crate) use auc_graph::{MOST_COST, MOST_OBJECTS, MOST_PERSONS, MOST_PRICE};
+pub(crate) use auc_graph::{
+    MOST_COST, MOST_OBJECTS, MOST_PERSONS, MOST_PRICE, TEXT_OBJECTS, TEXT_PERSONS,
+};
 
 /// The greatest number of objects in version 1 of the text.
 pub const MOST_OBJECTS_IN_FIRST: u32 = 10_000;

@@ -3,7 +3,7 @@
 ghost use Rattle.std.specs.Prelude.{◌≡◌, ◌≤◌};
 ghost use Rattle.auc_claim.specs.Spelled.{most_in, version_of_sizes, names_version};
 
-use crate::limits::{MOST_OBJECTS, MOST_OBJECTS_IN_FIRST};
+use crate::limits::{MOST_OBJECTS_IN_FIRST, TEXT_OBJECTS};
 
 /// The version of a certificate's text. A claim that version 1 can spell is in version 1, any other in version 2.
 #[derive(Clone, Copy, Debug, PartialEq, Eq)]
@@ -29,11 +29,11 @@ impl Version {
     /// The greatest number of objects that a certificate numbers.
     pub fn most_objects(self) -> u32
         ensures most { result ≡ most_in self }
-        ensures few { result ≤ MOST_OBJECTS }
+        ensures few { result ≤ TEXT_OBJECTS }
     {
         match self {
             Version::First => MOST_OBJECTS_IN_FIRST,
-            Version::Second => MOST_OBJECTS,
+            Version::Second => TEXT_OBJECTS,
         }
     }
 }

@@ -24,7 +24,7 @@ use Rattle.auc_claim.specs.declared.lists.Pick.{Pick}
 use Rattle.auc_claim.specs.declared.cert.CertParts.{CertParts}
 use Rattle.auc_claim.specs.Claim.{arc_of, chosen, pick_of}
 use Rattle.auc_claim.proofs.ClaimLaws.{faultless_is_allowed, objects_are, persons_are, length_chosen}
-use Rattle.auc_claim.proofs.Converse.{assignment_spelled, back, slack_right_faultless}
+use Rattle.auc_claim.proofs.Converse.{assignment_in_range, back, slack_right_faultless}
 use Rattle.auc_call.specs.Memory.{AreAt, no_arc}
 use Rattle.auc_call.specs.Shown.{IsLeastAt}
 use Rattle.auc_call.proofs.PlaceLaws.{chosen_at}
@@ -67,18 +67,6 @@ scaled_price s prices j lt = get_or-map (scaled (pos s)) prices j (pos 0) (pos 0
 -- what an arc is worth at the scaled prices
 scaled_worth : (s : ℕ) (prices : List ℤ) (a : Arc) → a.object < length prices → arc_value s (map (scaled (pos s)) prices) a ≡ pos s *ℤ (a.cost +ℤ get_or prices a.object (pos 0))
 scaled_worth s prices a lt = ap (λ (z : ℤ). pos s *ℤ a.cost +ℤ z) (scaled_price s prices a.object lt) ∙ sym (scale-add s a.cost (get_or prices a.object (pos 0)))
-
-fair_price : (s : ℕ) (z : ℤ) → s ≤ 10001 → IsPlainPrice z → IsPrice (pos s *ℤ z)
-fair_price s z few is =
-    let low = is.low in
-    let high = is.high in
-    let e : unsigned_abs (pos s *ℤ z) ≡ s * unsigned_abs z = unsigned_abs-mul (pos s) z in
-    let size : unsigned_abs z ≤ 2 * 10 ^ 14 = omega (arith, ints, low, high) in
-    let f : s * unsigned_abs z ≤ s * (2 * 10 ^ 14) = mul-le-mul_left s size in
-    let g : 2 * 10 ^ 14 * s ≤ 2 * 10 ^ 14 * 10001 = mul-le-mul_left (2 * 10 ^ 14) few in
-    let zero : pos s *ℤ pos 0 ≡ pos 0 = *ℤ-zero (pos s) in
-    let up : (pos s *ℤ pos 0) ≤ℤ (pos s *ℤ z) = scale-mono s (pos 0) z low in
-    record { low = omega (arith, ints, zero, up); high = omega (arith, ints, e, f, g, zero, up) }
 
 both_not : (b : Bool) → b ≡ true → b ≡ false → ⊥
 both_not b t f = absurd (let e = sym t ∙ f in cc)
@@ -181,14 +169,14 @@ module _ (persons objects : ℕ) (costs : List ℤ) (stride : ℕ) (gap : ℤ) (
   fair : All IsPrice (map (scaled (pos (persons + 1))) prices)
   fair k d lt =
       let below : k < length prices = omega (arith, lt, length-map prices (scaled (pos (persons + 1)))) in
-      let most = is.most in
-      subst IsPrice (sym (get_or-map (scaled (pos (persons + 1))) prices k (pos 0) d below)) (fair_price (persons + 1) (get_or prices k (pos 0)) (omega (arith, most)) (All-get_or IsPlainPrice prices k (pos 0) below show.fair))
+      let plain = All-get_or (IsPlainPrice (pos (persons + 1))) prices k (pos 0) below show.fair in
+      subst IsPrice (sym (get_or-map (scaled (pos (persons + 1))) prices k (pos 0) d below)) plain.fair
 
   pub shown_least : (cost : ℤ) → cost ≡ total_cost (chosen 0 picks) → ByObjects (table_arcs objects costs stride gap persons) (map (λ c. c.object) picks) (λ places. IsLeastAt (problem persons objects (table_arcs objects costs stride gap persons)) places (map (scaled (pos (persons + 1))) prices) cost)
   shown_least cost cost_is =
-      let spelled = assignment_spelled (problem persons objects (table_arcs objects costs stride gap persons)) (chosen 0 picks) (map (scaled (pos (persons + 1))) prices) is assigned priced fair in
+      let in_range = assignment_in_range (problem persons objects (table_arcs objects costs stride gap persons)) (chosen 0 picks) (map (scaled (pos (persons + 1))) prices) is assigned priced fair in
       let shown = slack_right_faultless (problem persons objects (table_arcs objects costs stride gap persons)) (chosen 0 picks) assigned (map (scaled (pos (persons + 1))) prices) priced (total_cost (chosen 0 picks)) refl slack left_free in
-      let allowed = faultless_is_allowed (problem persons objects (table_arcs objects costs stride gap persons)) (CertParts.Optimal (total_cost (chosen 0 picks)) (map pick_of (chosen 0 picks)) (map (scaled (pos (persons + 1))) prices)) is spelled shown in
+      let allowed = faultless_is_allowed (problem persons objects (table_arcs objects costs stride gap persons)) (CertParts.Optimal (total_cost (chosen 0 picks)) (map pick_of (chosen 0 picks)) (map (scaled (pos (persons + 1))) prices)) is in_range shown in
       let same = back (problem persons objects (table_arcs objects costs stride gap persons)) (chosen 0 picks) assigned (map (scaled (pos (persons + 1))) prices) priced (total_cost (chosen 0 picks)) refl in
       subst (λ (z : ℤ). ByObjects (table_arcs objects costs stride gap persons) (map (λ c. c.object) picks) (λ places. IsLeastAt (problem persons objects (table_arcs objects costs stride gap persons)) places (map (scaled (pos (persons + 1))) prices) z)) (sym cost_is) (record {
         places = places_of (table_arcs objects costs stride gap persons) (chosen 0 picks) known;
@@ -199,7 +187,7 @@ module _ (persons objects : ℕ) (costs : List ℤ) (stride : ℕ) (gap : ℤ) (
           at = subst (λ (choice : List Arc). AreAt (table_arcs objects costs stride gap persons) (places_of (table_arcs objects costs stride gap persons) (chosen 0 picks) known) choice) (sym same) (places_at (table_arcs objects costs stride gap persons) (chosen 0 picks) known);
           least = allowed.0;
           cost_is = allowed.1;
-          spelled = spelled;
+          in_range = in_range;
           shown = shown;
         };
       })

@@ -1,5 +1,5 @@
 -- A table of costs: a row for each person, and in it an entry for each object. Which problem it stands for.
-use Rattle.std.specs.Prelude.{◌≡◌, ◌≢◌, ℕ, zero, suc, ◌+◌, ◌*◌, ◌<◌, ◌≤◌, get_or, List, [], ◌∷◌, ◌++◌, slice_range, ℤ, pos, if◌then◌else◌, Option}
+use Rattle.std.specs.Prelude.{◌≡◌, ◌≢◌, ℕ, zero, suc, ◌+◌, ◌*◌, ◌^◌, ◌<◌, ◌≤◌, get_or, List, [], ◌∷◌, ◌++◌, slice_range, ℤ, pos, if◌then◌else◌, Option}
 use Rattle.std.specs.Option.{option_map}
 use Rattle.std.specs.Ordering.{int_eq}
 use Rattle.auc_graph.specs.declared.arc.Arc.{Arc}
@@ -9,8 +9,9 @@ use Rattle.auc_graph.specs.Problem.{Problem}
 use Rattle.auc_graph.specs.InMemory.{objects_or, problem_from, problem_fault}
 use Rattle.auc_call.specs.Memory.{no_arc}
 
--- Each row has so many objects and lies within so many entries, and no two of them meet.
+-- Each row has so many objects and lies within so many entries, and no two of them meet. An entry's number has 32 bits.
 pub record IsTable (persons objects stride entries : ℕ) : Type 0 where
+  pub numbered : persons * objects < 2 ^ 32
   pub apart : objects ≤ stride
   pub within : (person : ℕ) → person < persons → person * stride + objects ≤ entries
 

@@ -1,6 +1,7 @@
 -- What shows that an assignment of a table costs least: at the prices no entry is better for a person than his own, and
 -- an object that nobody has is free.
-use Rattle.std.specs.Prelude.{◌≡◌, ◌≢◌, ℕ, ◌*◌, ◌<◌, ◌^◌, get_or, List, length, All, ℤ, pos, ◌+ℤ◌, ◌*ℤ◌, ◌≤ℤ◌}
+use Rattle.std.specs.Prelude.{◌≡◌, ◌≢◌, ℕ, ◌+◌, ◌<◌, get_or, List, length, All, ℤ, pos, ◌+ℤ◌, ◌*ℤ◌, ◌≤ℤ◌}
+use Rattle.auc_graph.specs.Price.{IsPrice}
 use Rattle.auc_claim.specs.declared.lists.Pick.{Pick}
 use Rattle.auc_dense.specs.Table.{row_of}
 
@@ -42,18 +43,18 @@ AreOthersFree picks prices =
     (object : ℕ) → object < length prices → get_or prices object (pos 0) ≢ pos 0 → (person : ℕ)
     × (person < length picks) × ((pick_at picks person).object ≡ object)
 
--- A price in costs of a table: scaled, it is still one.
-pub record IsPlainPrice (price : ℤ) : Type 0 where
-  pub low : pos 0 ≤ℤ price
-  pub high : price ≤ℤ pos (2 * 10 ^ 14)
-
 abbrev pub scaled : ℤ → ℤ → ℤ
 scaled scale price = scale *ℤ price
+
+-- A price in costs of a table: scaled, it is still one.
+pub record IsPlainPrice (scale price : ℤ) : Type 0 where
+  pub own : IsPrice price
+  pub fair : IsPrice (scaled scale price)
 
 -- The picks and the prices show that the picks are a least assignment of the table.
 pub record ShowLeast (persons objects : ℕ) (costs : List ℤ) (stride : ℕ) (gap : ℤ) (picks : List Pick) (prices : List ℤ) : Type 0 where
   pub priced : length prices ≡ objects
-  pub fair : All IsPlainPrice prices
+  pub fair : All (IsPlainPrice (pos (persons + 1))) prices
   pub best : AreBest objects costs stride gap prices persons picks
   pub single : (one other : ℕ) → one < other → other < length picks → (pick_at picks one).object ≢ (pick_at picks other).object
   pub free : AreOthersFree picks prices

@@ -1,14 +1,13 @@
 //! A solve of a table by a search over the table itself, of which no arcs are made.
 
 ghost use Rattle.std.specs.Prelude.{◌≡◌, ◌≤◌, ◌+◌, pos, ◌≤ℤ◌, [], All, IfOk, IfSome, length, map};
-ghost use Rattle.auc_graph.specs.declared.limits.TheConstants.{MOST_PERSONS};
 ghost use Rattle.auc_graph.specs.Problem.{IsProblem};
 ghost use Rattle.auc_graph.specs.Reading.{problem};
 ghost use Rattle.auc_dense.specs.Quick.{IsQuick};
 ghost use Rattle.auc_dense.specs.Table.{IsTable, table_arcs};
 ghost use Rattle.auc_dense.specs.Tried.{IsPlainPrice, scaled};
 
-use crate::trying::try_out;
+use crate::trying::{scale_of, try_out};
 use auc_call::Run;
 use auc_claim::{Pick, cost_of};
 use auc_table::{Table, propose};
@@ -36,14 +35,6 @@ fn scans_of(persons: u32, objects: u32, bids: u64) -> u64 {
         .min(by_bids)
 }
 
-/// By what costs are multiplied: one more than the persons.
-fn scale_of(persons: u32) -> i64
-    requires { persons ≤ MOST_PERSONS }
-    ensures { result ≡ pos (persons + 1) }
-{
-    i64::from(persons) + 1
-}
-
 /// Writes the object of each pick.
 fn put_objects(picks: &[Pick], choice: &mut [u32])
     requires { length choice.old ≡ length picks.now }
@@ -56,9 +47,7 @@ fn put_objects(picks: &[Pick], choice: &mut [u32])
 
 /// Writes each price, scaled.
 fn put_prices(scale: i64, plain: &[i64], prices: &mut [i64])
-    requires low { pos 1 ≤ℤ scale }
-    requires high { scale ≤ℤ pos 10001 }
-    requires plain { All IsPlainPrice plain.now }
+    requires plain { All (IsPlainPrice scale) plain.now }
     requires len { length prices.old ≡ length plain.now }
     ensures { prices.new ≡ map (scaled scale) plain.now }
 {

@@ -1,6 +1,6 @@
 //! The arcs of a table of costs.
 
-ghost use Rattle.std.specs.Prelude.{◌≡◌, ◌↔◌, ◌≤◌, ◌<◌, ◌+◌, ◌*◌, ◌++◌, ℕ, ℤ, List, None, Contains, length, IfOk};
+ghost use Rattle.std.specs.Prelude.{◌≡◌, ◌↔◌, ◌≤◌, ◌<◌, ◌+◌, ◌*◌, ◌^◌, ◌++◌, ℕ, ℤ, List, None, Contains, length, IfOk};
 ghost use Rattle.std.specs.Prelude.{IfErr, true};
 ghost use Rattle.auc_graph.specs.declared.limits.TheConstants.{MOST_ARCS, MOST_PERSONS, MOST_OBJECTS};
 ghost use Rattle.auc_graph.specs.declared.arc.Arc.{Arc};
@@ -11,7 +11,10 @@ ghost use Rattle.auc_dense.specs.Entries.{IsFirstFault, entry_fault};
 use auc_graph::{Arc, ListFault, MOST_ARCS, MOST_COST};
 use std::alloc::{AllocError, Global};
 
-/// Whether each row lies within so many entries.
+/// The greatest number of entries of all rows.
+const MOST_ENTRIES: usize = 4_294_967_295;
+
+/// Whether each row lies within so many entries, and all rows have no more than the most.
 pub(crate) fn is_table(persons: u32, objects: u32, stride: usize, entries: usize) -> bool
     ensures { result ≡ true ↔ IsTable persons objects stride entries }
 {
@@ -21,6 +24,12 @@ pub(crate) fn is_table(persons: u32, objects: u32, stride: usize, entries: usize
     }
     if persons == 0 {
         return true;
+    }
+    let Some(all) = objects.checked_mul(persons as usize) else {
+        return false;
+    };
+    if MOST_ENTRIES < all {
+        return false;
     }
     match stride.checked_mul(persons as usize - 1) {
         Some(before) => objects <= entries && before <= entries - objects,
@@ -59,8 +68,8 @@ fn place_behind(
     person: u32,
     before: usize,
 ) -> Result<usize, ListFault>
-    requires persons { persons ≤ MOST_PERSONS }
     requires objects { length row.now ≤ MOST_OBJECTS }
+    requires entries { persons * length row.now < 2 ^ 32 }
     requires person { person < persons }
     requires before { before ≤ MOST_ARCS }
     ensures place { IfOk result (λ place. place ≡ before + length (row_arcs gap person 0 row.now)) }

@@ -18,7 +18,8 @@ use std::alloc::Global;
 ///
 /// After [`auc_call::OPTIMAL`] and [`auc_call::BRACKET`] `choice` holds for each person his object in place of his arc.
 /// After [`auc_call::REFUSED`] a cost's `found.place` is that of the entry in a table whose stride is the number of
-/// objects. A stride below that number, and a row that doesn't lie within `costs`, are [`auc_call::SIZES`].
+/// objects. A stride below that number, persons * objects of 2^32 and more, and a row that doesn't lie within `costs`,
+/// are [`auc_call::SIZES`].
 ///
 /// Where `start` is empty a search over the table comes first ([`auc_table::propose`]), in which to look over a row
 /// counts as a bid, and its answer is taken where one pass over the table shows that it is least. That takes

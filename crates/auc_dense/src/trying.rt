@@ -1,24 +1,49 @@
 //! Whether what was proposed for a table shows a least assignment of it. Nothing is known of a proposal, so all of it
 //! is looked at.
 
-ghost use Rattle.std.specs.Prelude.{◌≡◌, ◌≢◌, ◌<◌, ◌≤◌, ◌^◌, pos, neg_ℤ, ◌+ℤ◌, ◌≤ℤ◌, All, IsTrue, IfOk, IfSome, length};
+ghost use Rattle.std.specs.Prelude.{◌≡◌, ◌≢◌, ◌<◌, ◌≤◌, ◌+◌, ◌^◌, pos, neg_ℤ, ◌+ℤ◌, ◌≤ℤ◌, All, IsTrue, IfOk, IfSome};
+ghost use Rattle.std.specs.Prelude.{length};
 ghost use Rattle.auc_graph.specs.declared.limits.TheConstants.{MOST_PERSONS};
 ghost use Rattle.auc_dense.specs.Table.{IsTable};
 ghost use Rattle.auc_dense.specs.Tried.{AreBest, AreHeldApart, AreOthersFree, IsBestIn, IsNoneBelow, IsPlainPrice};
+ghost use Rattle.auc_graph.specs.Price.{IsPrice};
 ghost use Rattle.auc_dense.specs.Tried.{ShowLeast};
 
 use crate::table::row_of;
 use auc_claim::Pick;
-use auc_graph::MOST_COST;
-use auc_table::{HIGHEST_TAKEN, Proposal};
+use auc_graph::{MOST_COST, MOST_PRICE};
+use auc_table::Proposal;
 use std::alloc::{AllocError, Global};
 
-/// Whether all prices are from 0 to the highest.
-fn are_plain(prices: &[i64]) -> bool
-    ensures { IsTrue result → All IsPlainPrice prices.now }
+/// By what costs are multiplied: one more than the persons.
+pub(crate) fn scale_of(persons: u32) -> i64
+    requires { persons ≤ MOST_PERSONS }
+    ensures { result ≡ pos (persons + 1) }
+{
+    i64::from(persons) + 1
+}
+
+/// Whether this is a price in costs of the table, which is a price still where it is scaled.
+#[inline]
+fn is_plain(scale: i64, price: i64) -> bool
+    ensures { IsTrue result → IsPlainPrice scale price }
+{
+    if price < 0 || MOST_PRICE < price {
+        return false;
+    }
+    match scale.checked_mul(price) {
+        Some(scaled) => 0 <= scaled && scaled <= MOST_PRICE,
+        None => false,
+    }
+}
+
+/// Whether all prices are such.
+fn are_plain(scale: i64, prices: &[i64]) -> bool
+    ensures plain { IsTrue result → All (IsPlainPrice scale) prices.now }
+    ensures prices { IsTrue result → All IsPrice prices.now }
 {
     for price in prices {
-        if *price < 0 || HIGHEST_TAKEN < *price {
+        if !is_plain(scale, *price) {
             return false;
         }
     }
@@ -28,7 +53,7 @@ fn are_plain(prices: &[i64]) -> bool
 /// Whether an entry is a gap, or has at least this value with its price.
 #[inline(always)]
 fn is_no_better(cost: i64, gap: i64, price: i64, least: i64) -> bool
-    requires price { IsPlainPrice price }
+    requires price { IsPrice price }
     requires low { neg_ℤ (pos (2 ^ 62)) ≤ℤ least }
     requires high { least ≤ℤ pos (2 ^ 62) }
     ensures { IsTrue result → cost ≢ gap → least ≤ℤ (cost +ℤ price) }
@@ -41,7 +66,7 @@ fn is_no_better(cost: i64, gap: i64, price: i64, least: i64) -> bool
 #[inline(never)]
 fn is_none_below(row: &[i64], gap: i64, prices: &[i64], least: i64) -> bool
     requires len { length prices.now ≡ length row.now }
-    requires prices { All IsPlainPrice prices.now }
+    requires prices { All IsPrice prices.now }
     requires low { neg_ℤ (pos (2 ^ 62)) ≤ℤ least }
     requires high { least ≤ℤ pos (2 ^ 62) }
     ensures { IsTrue result → IsNoneBelow gap row.now prices.now least (length row.now) }
@@ -57,7 +82,7 @@ fn is_none_below(row: &[i64], gap: i64, prices: &[i64], least: i64) -> bool
 /// The pick of an object, where its entry is no gap, and none of the row is better.
 fn best_pick(row: &[i64], gap: i64, prices: &[i64], object: u32) -> Option<Pick>
     requires len { length prices.now ≡ length row.now }
-    requires prices { All IsPlainPrice prices.now }
+    requires prices { All IsPrice prices.now }
     ensures { IfSome result (IsBestIn gap row.now prices.now) }
 {
     if object as usize >= row.len() {
@@ -87,7 +112,7 @@ fn best_picks(
     requires few { length choice.now ≤ MOST_PERSONS }
     requires table { IsTable (length choice.now) objects stride (length costs.now) }
     requires len { length prices.now ≡ objects }
-    requires prices { All IsPlainPrice prices.now }
+    requires prices { All IsPrice prices.now }
     ensures { IfOk result (λ o. IfSome o (λ picks. AreBest objects costs.now stride gap prices.now
         (length choice.now) picks.items)) }
 {
@@ -154,7 +179,7 @@ pub(crate) fn try_out(
     if proposal.objects.len() != persons as usize || prices.len() != objects as usize {
         return Ok(None);
     }
-    if !are_plain(prices) {
+    if !are_plain(scale_of(persons), prices) {
         return Ok(None);
     }
     let choice = proposal.objects.as_slice();

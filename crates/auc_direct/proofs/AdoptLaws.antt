@@ -6,13 +6,14 @@ use Rattle.std.proofs.lemmas.Int.{ints}
 use Rattle.std.proofs.lemmas.List.{get_or_default, get_or-set_same, get_or-set_other}
 use Rattle.auc_graph.specs.Dual.{price_at}
 use Rattle.auc_graph.specs.Price.{IsPrice}
-use Rattle.auc_market.proofs.Bounds.{product_low}
+use Rattle.auc_graph.specs.declared.limits.TheConstants.{MOST_SCALE}
 use Rattle.auc_graph.proofs.ValueBounds.{product_abs}
+use Rattle.auc_market.proofs.Bounds.{product_low}
 
--- a price in costs of the table that is not too high, scaled
-pub scaled_price : (s d : ℤ) → pos 1 ≤ℤ s → s ≤ℤ pos 10001 → pos 0 ≤ℤ d → d ≤ℤ pos (2 * 10 ^ 14) → IsPrice (s *ℤ d) × FitsSigned w64 (s *ℤ d)
+-- a difference of two numbers of 32 bits, scaled
+pub scaled_price : (s d : ℤ) → pos 1 ≤ℤ s → s ≤ℤ MOST_SCALE → pos 0 ≤ℤ d → d ≤ℤ pos (2 ^ 32) → IsPrice (s *ℤ d) × FitsSigned w64 (s *ℤ d)
 scaled_price s d a b plain most =
-    let h : unsigned_abs (s *ℤ d) ≤ 10001 * (2 * 10 ^ 14) = product_abs s d 10001 (2 * 10 ^ 14) (omega (arith, ints)) (omega (arith, ints)) in
+    let h : unsigned_abs (s *ℤ d) ≤ 4194305 * 2 ^ 32 = product_abs s d 4194305 (2 ^ 32) (omega (arith, ints)) (omega (arith, ints)) in
     let low : pos 0 ≤ℤ (s *ℤ d) = product_low s d (omega (arith, ints)) (omega (arith, ints)) in
     (record { low = low; high = omega (arith, ints, h) }, omega (arith, ints, h))
 

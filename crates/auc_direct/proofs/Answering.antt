@@ -11,7 +11,7 @@ use Rattle.auc_claim.specs.declared.cert.CertParts.{CertParts}
 use Rattle.auc_claim.specs.declared.reason.Reason.{Reason}
 use Rattle.auc_claim.specs.Claim.{pick_of}
 use Rattle.auc_claim.proofs.ClaimLaws.{faultless_is_allowed}
-use Rattle.auc_claim.proofs.Converse.{assignment_spelled, slack_right_faultless}
+use Rattle.auc_claim.proofs.Converse.{assignment_in_range, slack_right_faultless}
 use Rattle.auc_graph.specs.Assignment.{IsAssignment, total, total_cost}
 use Rattle.auc_graph.specs.declared.arc.Arc.{Arc}
 use Rattle.auc_graph.specs.Problem.{IsProblem, Problem}
@@ -100,9 +100,9 @@ module _ (p : Problem) (r : FlatTable) (rows : AreRowsOf p r) (prices : List ℤ
       certified =
           let given = choices.assigned p rows.table r (pos 1) prices holders owns held rows.of rows.same sound stands are all in
           let many = choices.many_prices p rows.table r (pos 1) prices holders owns held rows.of rows.same sound stands are in
-          let spelled = assignment_spelled p choice prices is given many stands.within in
+          let in_range = assignment_in_range p choice prices is given many stands.within in
           let faultless = slack_right_faultless p choice given prices many (total_cost choice) refl (choices.slack_all p rows.table r (pos 1) prices holders owns held rows.of rows.same sound stands are all) (choices.no_price_left p rows.table r (pos 1) prices holders owns held rows.of rows.same sound stands are all is) in
-          record { spelled = spelled; faultless = faultless; allowed = faultless_is_allowed p (claim_of choice prices) is spelled faultless }
+          record { in_range = in_range; faultless = faultless; allowed = faultless_is_allowed p (claim_of choice prices) is in_range faultless }
 
       -- what is claimed of these prices and holders passes the checker
       pub sold_passes : (arcs : List Arc) × IsChoiceOf p held arcs × IsCertified p (claim_of arcs prices)

@@ -6,9 +6,10 @@ ghost use Rattle.auc_direct.specs.Adopted.{IsFullTable};
 ghost use Rattle.auc_market.specs.Market.{HaveObjects, Stands};
 ghost use Rattle.auc_market.specs.Starts.{ArePricesOf};
 
+use auc_graph::MOST_PRICE;
 use auc_market::{Holdings, tried};
 use auc_rows::FlatRows;
-use auc_table::{HIGHEST_TAKEN, Proposal, Table, propose};
+use auc_table::{Proposal, Table, propose};
 use std::alloc::{AllocError, Global};
 
 /// The costs of all rows, one row after another. None where the rows aren't a full table. No clause says that they are,
@@ -34,7 +35,7 @@ fn costs_of(alloc: Global, rows: &FlatRows) -> Result<Option<Vec<i64>>, AllocErr
     Ok(Some(costs))
 }
 
-/// Proposed prices, scaled. None where there isn't one for each object, or where one is below 0 or above the greatest.
+/// Proposed prices, scaled. None where there isn't one for each object, or where one, scaled, is no price.
 fn scaled_prices(rows: &FlatRows, mut prices: Vec<i64>) -> Option<Vec<i64>>
     ensures { IfSome result (λ scaled. ArePricesOf rows.now scaled.items) }
 {
@@ -43,11 +44,13 @@ fn scaled_prices(rows: &FlatRows, mut prices: Vec<i64>) -> Option<Vec<i64>>
     }
     let scale = rows.scale();
     for object in 0..prices.len() {
-        let price = prices[object];
-        if price < 0 || HIGHEST_TAKEN < price {
+        let Some(price) = scale.checked_mul(prices[object]) else {
+            return None;
+        };
+        if price < 0 || MOST_PRICE < price {
             return None;
         }
-        prices[object] = scale * price;
+        prices[object] = price;
     }
     Some(prices)
 }

@@ -1,25 +1,26 @@
 //! The values of eps of the phases (epsilon scaling), in scaled costs.
 
-ghost use Rattle.std.specs.Prelude.{◌≡◌, pos, ◌<ℤ◌, ◌≤ℤ◌, IfSome, IfNone};
+ghost use Rattle.std.specs.Prelude.{◌≡◌, ◌^◌, pos, ◌<ℤ◌, ◌≤ℤ◌, IfSome, IfNone};
 ghost use Rattle.auc_market.specs.Eps.{IsEpsOf};
 
 use crate::tuning::EPS_DIVISOR;
+use auc_graph::MOST_OBJECTS;
 use auc_market::LAST_EPS;
 use auc_rows::FlatRows;
 
-/// The greatest number of arcs that a row is taken to have: the greatest number of objects.
-const MOST_ROW_ARCS: usize = 20_000;
+/// The square root of the greatest number of objects, which a row is taken to have no more arcs than.
+const MOST_ROOT: i64 = 2_048;
 
 /// The mean number of arcs of a row.
 fn mean_arcs(rows: &FlatRows) -> i64
     ensures low { pos 1 ≤ℤ result }
-    ensures high { result ≤ℤ pos 20000 }
+    ensures high { result ≤ℤ pos (2 ^ 22) }
 {
     let mean = rows
         .arc_count()
         .checked_div(rows.persons() as usize)
         .unwrap_or(1)
-        .clamp(1, MOST_ROW_ARCS);
+        .clamp(1, MOST_OBJECTS as usize);
     mean as i64
 }
 
@@ -27,12 +28,12 @@ fn mean_arcs(rows: &FlatRows) -> i64
 fn root_of(number: i64) -> i64
     ensures { pos 1 ≤ℤ result }
 {
-    for root in 1..142i64 {
+    for root in 1..MOST_ROOT {
         if root.saturating_mul(root) >= number {
             return root.max(1);
         }
     }
-    142
+    MOST_ROOT
 }
 
 /// The mean spread of a row, divided by the mean number of its arcs, and at least 1. Where costs are random, this is

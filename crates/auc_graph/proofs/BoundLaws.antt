@@ -26,14 +26,14 @@ total_more xs i d lt = ap total (take_more xs i d lt) ∙ total_push (take i xs)
 
 -- ---- values of arcs
 
-pub scaled_abs : (s : ℕ) (c : ℤ) → s ≤ MOST_PERSONS + 1 → neg_ℤ MOST_COST ≤ℤ c → c ≤ℤ MOST_COST → unsigned_abs (pos s *ℤ c) ≤ 10001 * 10 ^ 9
+pub scaled_abs : (s : ℕ) (c : ℤ) → s ≤ MOST_PERSONS + 1 → neg_ℤ MOST_COST ≤ℤ c → c ≤ℤ MOST_COST → unsigned_abs (pos s *ℤ c) ≤ 4194305 * 10 ^ 9
 scaled_abs s c le low high =
     let abs : unsigned_abs (pos s *ℤ c) ≡ s * unsigned_abs c = unsigned_abs-mul (pos s) c in
     let small : unsigned_abs c ≤ 10 ^ 9 = omega (arith, ints, low, high) in
     let more : s * unsigned_abs c ≤ s * 10 ^ 9 = mul-le-mul_left s small in
     omega (arith, abs, more, le)
 
-pub value_fits : (scaled price : ℤ) → unsigned_abs scaled ≤ 10001 * 10 ^ 9 → IsPrice price → FitsSigned w64 (scaled +ℤ price)
+pub value_fits : (scaled price : ℤ) → unsigned_abs scaled ≤ 4194305 * 10 ^ 9 → IsPrice price → FitsSigned w64 (scaled +ℤ price)
 value_fits scaled price small is = omega (arith, ints, small, is.low, is.high)
 
 -- ---- the bound

@@ -1,9 +1,12 @@
 -- The answer at the end of a text: it is never too many reads, and a problem that is read has the wanted number of
 -- objects.
-use Rattle.std.proofs.Common.{◌≡◌, ℕ, ◌+◌, ◌*◌, ◌-◌, ◌++◌, inl, inr, List, [], ◌∷◌, length, Result, Ok, Err, refl, sym, ap, subst, ◌∙◌, Option}
+use Rattle.std.proofs.Common.{◌≡◌, arith, T, true, false, if◌then◌else◌, ◌<◌, ◌≤◌, Bool, ℕ, ◌+◌, ◌*◌, ◌-◌, ◌++◌, inl, inr, List, [], ◌∷◌, length, Result, Ok, Err, refl, sym, ap, subst, ◌∙◌, Option}
 use Rattle.std.specs.Prelude.{◌≢◌, ℤ, pos, neg_ℤ, unsigned_abs, nat_le, nat_lt, ◌==◌, ⊤}
 use Rattle.std.specs.Io.KnownBytes.{IsAtEnd}
-use Rattle.std.proofs.lemmas.Bool.{cases_Bool}
+use Rattle.std.specs.Prelude.{int_le, ◌≤ℤ◌}
+use Rattle.std.specs.Int.Signed.{le_z_yes}
+use Rattle.std.proofs.lemmas.Int.{ints}
+use Rattle.std.proofs.lemmas.Bool.{and_parts, cases_Bool}
 use Rattle.auc_graph.specs.declared.number.Number.{Number}
 use Rattle.auc_graph.specs.declared.number.Number.TheVariants.{Bad, Value, Huge}
 use Rattle.auc_graph.specs.declared.arc.Arc.{Arc}
@@ -12,7 +15,7 @@ use Rattle.auc_graph.specs.declared.read_error.ReadError.TheVariants.{Empty, Bad
 use Rattle.auc_graph.specs.declared.reading.ReadLimits.{ReadLimits}
 use Rattle.auc_graph.specs.declared.stage.Stage.{Stage}
 use Rattle.auc_graph.specs.declared.stage.Stage.TheVariants.{AtCount, AtPerson, AtObject, AtCost}
-use Rattle.auc_graph.specs.declared.limits.TheConstants.{MOST_PERSONS, MOST_COST}
+use Rattle.auc_graph.specs.declared.limits.TheConstants.{MOST_COST}
 use Rattle.auc_graph.specs.Memory.{AnswersUnless}
 use Rattle.auc_graph.specs.Problem.{Problem}
 use Rattle.auc_graph.specs.Numbers.{numbers}
@@ -62,8 +65,8 @@ objects_never wanted persons =
 
 step_at_never : (limit : ℕ) (stage : Stage) (arcs : List Arc) (x : Number) → Never (step_at limit stage arcs x)
 unfolding step_at
-step_at_never limit (AtCount wanted) arcs x =
-    binds (index MOST_PERSONS 0 CountRange x) (λ before. objects_for wanted (before + 1) >>= λ objects. Ok (AtPerson (before + 1) objects, arcs)) (index_never MOST_PERSONS 0 CountRange x (λ e. absurd cc)) (λ before.
+step_at_never limit (AtCount most wanted) arcs x =
+    binds (index most 0 CountRange x) (λ before. objects_for wanted (before + 1) >>= λ objects. Ok (AtPerson (before + 1) objects, arcs)) (index_never most 0 CountRange x (λ e. absurd cc)) (λ before.
     binds (objects_for wanted (before + 1)) (λ objects. Ok (AtPerson (before + 1) objects, arcs)) (objects_never wanted (before + 1)) (λ y is. absurd cc))
 step_at_never limit (AtPerson persons objects) arcs x =
     binds (room limit (length arcs)) (λ _. index persons (3 * length arcs + 1) (PersonRange (length arcs)) x >>= λ person. Ok (AtObject persons objects person, arcs)) (room_never limit (length arcs)) (λ _.
@@ -80,7 +83,7 @@ step_never limit (Err e) x h = h
 
 finish_at_never : (stage : Stage) (arcs : List Arc) → Never (finish_at stage arcs)
 unfolding finish_at
-finish_at_never (AtCount wanted) arcs = λ is. absurd cc
+finish_at_never (AtCount most wanted) arcs = λ is. absurd cc
 finish_at_never (AtPerson persons objects) arcs = λ is. absurd cc
 finish_at_never (AtObject persons objects person) arcs = λ is. absurd cc
 finish_at_never (AtCost persons objects person object) arcs = λ is. absurd cc
@@ -95,8 +98,8 @@ unfolding reading_on
 never_on limit state [] h = finish_never state h
 never_on limit state (x ∷ xs) h = never_on limit (step limit state x) xs (step_never limit state x h)
 
-reading_never : (limit wanted : ℕ) (text : List ℕ) → Never (reading limit wanted text)
-reading_never limit wanted text = never_on limit (start wanted) (numbers text) (λ is. absurd cc)
+reading_never : (most limit wanted : ℕ) (text : List ℕ) → Never (reading most limit wanted text)
+reading_never most limit wanted text = never_on limit (start most wanted) (numbers text) (λ is. absurd cc)
 
 -- ---- what is answered
 
@@ -108,7 +111,7 @@ pub answers_as : (e : ReadError) (answer read other : Result Problem ReadError) 
 answers_as e (Ok p) read other is h = is ∙ h
 answers_as e (Err d) read other is h = λ k. is ∙ h k
 
-pub is_read : (limits : ReadLimits) (left : Option (List ℕ)) (text : List ℕ) (answer : Result Problem ReadError) → IsAtEnd left → AnswersUnless NoMemory (λ p. p) answer (λ r. reading limits.arcs limits.objects text ≡ r) → IsRead limits left text answer
+pub is_read : (limits : ReadLimits) (left : Option (List ℕ)) (text : List ℕ) (answer : Result Problem ReadError) → IsAtEnd left → AnswersUnless NoMemory (λ p. p) answer (λ r. reading limits.persons limits.arcs limits.objects text ≡ r) → IsRead limits left text answer
 is_read limits left text (Ok p) end h = (end, h)
 is_read limits left text (Err Empty) end h = (end, h (λ e. absurd cc))
 is_read limits left text (Err (BadNumber token)) end h = (end, h (λ e. absurd cc))
@@ -120,68 +123,101 @@ is_read limits left text (Err (CostRange arc)) end h = (end, h (λ e. absurd cc)
 is_read limits left text (Err (Cut tokens)) end h = (end, h (λ e. absurd cc))
 is_read limits left text (Err NoMemory) end h = tt
 is_read limits left text (Err ReadFault) end h = tt
-is_read limits left text (Err TooManyReads) end h = absurd (reading_never limits.arcs limits.objects text (h (λ e. absurd cc)))
+is_read limits left text (Err TooManyReads) end h = absurd (reading_never limits.persons limits.arcs limits.objects text (h (λ e. absurd cc)))
 is_read limits left text (Err TooFewObjects) end h = (end, h (λ e. absurd cc))
 
--- ---- how many objects what is read has
+-- ---- how many persons and objects what is read has
 
--- the number of objects in a stage agrees with the number wanted
-abbrev IsFor : ℕ → Stage → Type 0
-IsFor wanted (AtCount own) = own ≡ wanted
-IsFor wanted (AtPerson persons objects) = objects_for wanted persons ≡ Ok objects
-IsFor wanted (AtObject persons objects person) = objects_for wanted persons ≡ Ok objects
-IsFor wanted (AtCost persons objects person object) = objects_for wanted persons ≡ Ok objects
+-- the numbers of persons and objects agree with the greatest number of persons and the number of objects wanted
+abbrev AreRead : ℕ → ℕ → ℕ → ℕ → Type 0
+AreRead most wanted persons objects = (persons ≤ most) × (objects_for wanted persons ≡ Ok objects)
 
-abbrev AreFor : ℕ → State → Type 0
-AreFor wanted (Ok (stage, arcs)) = IsFor wanted stage
-AreFor wanted (Err e) = ⊤
+abbrev IsFor : ℕ → ℕ → Stage → Type 0
+IsFor most wanted (AtCount top own) = (top ≡ most) × (own ≡ wanted)
+IsFor most wanted (AtPerson persons objects) = AreRead most wanted persons objects
+IsFor most wanted (AtObject persons objects person) = AreRead most wanted persons objects
+IsFor most wanted (AtCost persons objects person object) = AreRead most wanted persons objects
 
-brings : {A : Type 0} (wanted : ℕ) (p : Result A ReadError) (f : A → State) → ((x : A) → p ≡ Ok x → AreFor wanted (f x)) → AreFor wanted (p >>= f)
-brings wanted (Ok x) f h = h x refl
-brings wanted (Err e) f h = tt
+abbrev AreFor : ℕ → ℕ → State → Type 0
+AreFor most wanted (Ok (stage, arcs)) = IsFor most wanted stage
+AreFor most wanted (Err e) = ⊤
 
-step_at_for : (limit wanted : ℕ) (stage : Stage) (arcs : List Arc) (x : Number) → IsFor wanted stage → AreFor wanted (step_at limit stage arcs x)
+brings : {A : Type 0} (most wanted : ℕ) (p : Result A ReadError) (f : A → State) → ((x : A) → p ≡ Ok x → AreFor most wanted (f x)) → AreFor most wanted (p >>= f)
+brings most wanted (Ok x) f h = h x refl
+brings most wanted (Err e) f h = tt
+
+-- the index is below the greatest number
+index_below : (most token : ℕ) (range : ReadError) (x : Number) (k : ℕ) → index most token range x ≡ Ok k → k < most
+index_below most token range Bad k is = absurd cc
+index_below most token range Huge k is = absurd cc
+index_below most token range (Value z) k is =
+    elim (cases_Bool (is_between (pos 1) (pos most) z)) [
+      | inl t ↦
+          let own : unsigned_abs z - 1 ≡ k = is_own (is_between (pos 1) (pos most) z) t is in
+          let ends = and_parts (int_le (pos 1) z) (int_le z (pos most)) t in
+          let low : pos 1 ≤ℤ z = le_z_yes (subst (λ (b : Bool). T b) (sym ends.0) tt) in
+          let high : z ≤ℤ pos most = le_z_yes (subst (λ (b : Bool). T b) (sym ends.1) tt) in
+          omega (arith, ints, own, low, high)
+      | inr f ↦ absurd (is_none (is_between (pos 1) (pos most) z) f is)
+    ]
+  where
+    is_own : (b : Bool) → b ≡ true → ((if b then Ok z else Err range) >>= (λ w. Ok (unsigned_abs w - 1))) ≡ Ok k → unsigned_abs z - 1 ≡ k
+    is_own true t e = cc
+    is_own false t e = absurd cc
+
+    is_none : (b : Bool) → b ≡ false → ((if b then Ok z else Err range) >>= (λ w. Ok (unsigned_abs w - 1))) ≡ Ok k → ⊥
+    is_none true t e = absurd cc
+    is_none false t e = cc
+
+step_at_for : (limit most wanted : ℕ) (stage : Stage) (arcs : List Arc) (x : Number) → IsFor most wanted stage → AreFor most wanted (step_at limit stage arcs x)
 unfolding step_at
-step_at_for limit wanted (AtCount own) arcs x h =
-    brings wanted (index MOST_PERSONS 0 CountRange x) (λ before. objects_for own (before + 1) >>= λ objects. Ok (AtPerson (before + 1) objects, arcs)) (λ before _.
-    brings wanted (objects_for own (before + 1)) (λ objects. Ok (AtPerson (before + 1) objects, arcs)) (λ objects is. ap (λ (w : ℕ). objects_for w (before + 1)) (sym h) ∙ is))
-step_at_for limit wanted (AtPerson persons objects) arcs x h =
-    brings wanted (room limit (length arcs)) (λ _. index persons (3 * length arcs + 1) (PersonRange (length arcs)) x >>= λ person. Ok (AtObject persons objects person, arcs)) (λ _ _.
-    brings wanted (index persons (3 * length arcs + 1) (PersonRange (length arcs)) x) (λ person. Ok (AtObject persons objects person, arcs)) (λ person _. h))
-step_at_for limit wanted (AtObject persons objects person) arcs x h =
-    brings wanted (index objects (3 * length arcs + 2) (ObjectRange (length arcs)) x) (λ object. Ok (AtCost persons objects person object, arcs)) (λ object _. h)
-step_at_for limit wanted (AtCost persons objects person object) arcs x h =
-    brings wanted (cost (3 * length arcs + 3) (CostRange (length arcs)) x) (λ c. Ok (AtPerson persons objects, arcs ++ arc_of person object c ∷ [])) (λ c _. h)
+step_at_for limit most wanted (AtCount top own) arcs x h =
+    brings most wanted (index top 0 CountRange x) (λ before. objects_for own (before + 1) >>= λ objects. Ok (AtPerson (before + 1) objects, arcs)) (λ before here.
+    brings most wanted (objects_for own (before + 1)) (λ objects. Ok (AtPerson (before + 1) objects, arcs)) (λ objects is.
+    (omega (arith, index_below top 0 CountRange x before here, h.0), ap (λ (w : ℕ). objects_for w (before + 1)) (sym h.1) ∙ is)))
+step_at_for limit most wanted (AtPerson persons objects) arcs x h =
+    brings most wanted (room limit (length arcs)) (λ _. index persons (3 * length arcs + 1) (PersonRange (length arcs)) x >>= λ person. Ok (AtObject persons objects person, arcs)) (λ _ _.
+    brings most wanted (index persons (3 * length arcs + 1) (PersonRange (length arcs)) x) (λ person. Ok (AtObject persons objects person, arcs)) (λ person _. h))
+step_at_for limit most wanted (AtObject persons objects person) arcs x h =
+    brings most wanted (index objects (3 * length arcs + 2) (ObjectRange (length arcs)) x) (λ object. Ok (AtCost persons objects person object, arcs)) (λ object _. h)
+step_at_for limit most wanted (AtCost persons objects person object) arcs x h =
+    brings most wanted (cost (3 * length arcs + 3) (CostRange (length arcs)) x) (λ c. Ok (AtPerson persons objects, arcs ++ arc_of person object c ∷ [])) (λ c _. h)
 
-step_for : (limit wanted : ℕ) (state : State) (x : Number) → AreFor wanted state → AreFor wanted (step limit state x)
+step_for : (limit most wanted : ℕ) (state : State) (x : Number) → AreFor most wanted state → AreFor most wanted (step limit state x)
 unfolding step
-step_for limit wanted (Ok (stage, arcs)) x h = step_at_for limit wanted stage arcs x h
-step_for limit wanted (Err e) x h = tt
+step_for limit most wanted (Ok (stage, arcs)) x h = step_at_for limit most wanted stage arcs x h
+step_for limit most wanted (Err e) x h = tt
 
--- a problem that is read has the wanted number of objects
-abbrev HasObjects : ℕ → Result Problem ReadError → Type 0
-HasObjects wanted (Ok p) = objects_for wanted p.persons ≡ Ok p.objects
-HasObjects wanted (Err e) = ⊤
+-- a problem that is read has such numbers
+abbrev HasSizes : ℕ → ℕ → Result Problem ReadError → Type 0
+HasSizes most wanted (Ok p) = AreRead most wanted p.persons p.objects
+HasSizes most wanted (Err e) = ⊤
 
-finish_at_for : (wanted : ℕ) (stage : Stage) (arcs : List Arc) → IsFor wanted stage → HasObjects wanted (finish_at stage arcs)
+finish_at_for : (most wanted : ℕ) (stage : Stage) (arcs : List Arc) → IsFor most wanted stage → HasSizes most wanted (finish_at stage arcs)
 unfolding finish_at
-finish_at_for wanted (AtCount own) arcs h = tt
-finish_at_for wanted (AtPerson persons objects) arcs h = h
-finish_at_for wanted (AtObject persons objects person) arcs h = tt
-finish_at_for wanted (AtCost persons objects person object) arcs h = tt
+finish_at_for most wanted (AtCount top own) arcs h = tt
+finish_at_for most wanted (AtPerson persons objects) arcs h = h
+finish_at_for most wanted (AtObject persons objects person) arcs h = tt
+finish_at_for most wanted (AtCost persons objects person object) arcs h = tt
 
-finish_for : (wanted : ℕ) (state : State) → AreFor wanted state → HasObjects wanted (finish state)
+finish_for : (most wanted : ℕ) (state : State) → AreFor most wanted state → HasSizes most wanted (finish state)
 unfolding finish
-finish_for wanted (Ok (stage, arcs)) h = finish_at_for wanted stage arcs h
-finish_for wanted (Err e) h = tt
+finish_for most wanted (Ok (stage, arcs)) h = finish_at_for most wanted stage arcs h
+finish_for most wanted (Err e) h = tt
 
-for_on : (limit wanted : ℕ) (state : State) (xs : List Number) → AreFor wanted state → HasObjects wanted (reading_on limit state xs)
+for_on : (limit most wanted : ℕ) (state : State) (xs : List Number) → AreFor most wanted state → HasSizes most wanted (reading_on limit state xs)
 unfolding reading_on
-for_on limit wanted state [] h = finish_for wanted state h
-for_on limit wanted state (x ∷ xs) h = for_on limit wanted (step limit state x) xs (step_for limit wanted state x h)
+for_on limit most wanted state [] h = finish_for most wanted state h
+for_on limit most wanted state (x ∷ xs) h = for_on limit most wanted (step limit state x) xs (step_for limit most wanted state x h)
 
-pub objects_read : (limit wanted : ℕ) (text : List ℕ) (p : Problem) → reading limit wanted text ≡ Ok p → objects_for wanted p.persons ≡ Ok p.objects
-objects_read limit wanted text p is = subst (HasObjects wanted) is (for_on limit wanted (start wanted) (numbers text) refl)
+sizes_read : (most limit wanted : ℕ) (text : List ℕ) (p : Problem) → reading most limit wanted text ≡ Ok p → AreRead most wanted p.persons p.objects
+sizes_read most limit wanted text p is = subst (HasSizes most wanted) is (for_on limit most wanted (start most wanted) (numbers text) (refl, refl))
+
+pub objects_read : (most limit wanted : ℕ) (text : List ℕ) (p : Problem) → reading most limit wanted text ≡ Ok p → objects_for wanted p.persons ≡ Ok p.objects
+objects_read most limit wanted text p is = (sizes_read most limit wanted text p is).1
+
+pub persons_read : (most limit wanted : ℕ) (text : List ℕ) (p : Problem) → reading most limit wanted text ≡ Ok p → p.persons ≤ most
+persons_read most limit wanted text p is = (sizes_read most limit wanted text p is).0
 
 pub same_objects : (persons objects : ℕ) → objects_for 0 persons ≡ Ok objects → persons ≡ objects
 same_objects persons objects is = cc

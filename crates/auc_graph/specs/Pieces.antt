@@ -9,13 +9,19 @@ use Rattle.auc_graph.specs.declared.read_error.ReadError.TheVariants.{NoMemory, 
 use Rattle.auc_graph.specs.declared.reading.ReadLimits.{ReadLimits}
 use Rattle.auc_graph.specs.declared.stage.Stage.{Stage}
 use Rattle.auc_graph.specs.declared.stage.Stage.TheVariants.{AtCount, AtPerson, AtObject, AtCost}
-use Rattle.auc_graph.specs.declared.limits.TheConstants.{MOST_OBJECTS}
+use Rattle.auc_graph.specs.declared.limits.TheConstants.{MOST_ARCS, MOST_OBJECTS, MOST_PERSONS}
 use Rattle.auc_graph.specs.declared.unfinished.Unfinished.{Unfinished}
 use Rattle.auc_graph.specs.declared.unfinished.Unfinished.TheVariants.{NoNumber, Digits}
 use Rattle.auc_graph.specs.Tokens.{is_separator}
 use Rattle.auc_graph.specs.Numbers.{number, numbers}
 use Rattle.auc_graph.specs.Problem.{Problem, IsProblem}
 use Rattle.auc_graph.specs.Reading.{problem, State, reading_on, reading}
+
+-- the limits that a reader may be given: those of a problem, or lower ones
+pub record AreReadLimits (limits : ReadLimits) : Type 0 where
+  pub persons : limits.persons ≤ MOST_PERSONS
+  pub arcs : limits.arcs ≤ MOST_ARCS
+  pub objects : limits.objects ≤ MOST_OBJECTS
 
 -- the result of reading the rest of a text, after this stage and these arcs
 abbrev pub reading_at : ℕ → Stage → List Arc → List ℕ → Result Problem ReadError
@@ -36,7 +42,7 @@ AreArcs limit persons objects arcs = IsProblem (problem persons objects arcs) ×
 -- The invariant of a stage. After the count, the arcs so far make a problem. While an arc is read, its parts are in
 -- range, and the limit leaves room for it.
 abbrev pub IsStage : ℕ → Stage → List Arc → Type 0
-IsStage limit (AtCount wanted) arcs = (arcs ≡ []) × (wanted ≤ MOST_OBJECTS)
+IsStage limit (AtCount most wanted) arcs = (arcs ≡ []) × (most ≤ MOST_PERSONS) × (wanted ≤ MOST_OBJECTS)
 IsStage limit (AtPerson persons objects) arcs = AreArcs limit persons objects arcs
 IsStage limit (AtObject persons objects person) arcs = AreArcs limit persons objects arcs × (length arcs < limit) × (person < persons)
 IsStage limit (AtCost persons objects person object) arcs =
@@ -70,4 +76,4 @@ abbrev pub IsRead : ReadLimits → Option (List ℕ) → List ℕ → Result Pro
 IsRead limits left text (Err NoMemory) = ⊤
 IsRead limits left text (Err ReadFault) = ⊤
 IsRead limits left text (Err TooManyReads) = limits.reads ≤ length text
-IsRead limits left text answer = IsAtEnd left × (reading limits.arcs limits.objects text ≡ answer)
+IsRead limits left text answer = IsAtEnd left × (reading limits.persons limits.arcs limits.objects text ≡ answer)

@@ -7,7 +7,7 @@ use Rattle.auc_graph.specs.declared.read_error.ReadError.{ReadError}
 use Rattle.auc_graph.specs.declared.read_error.ReadError.TheVariants.{Empty, BadNumber, CountRange, TooManyArcs, PersonRange, ObjectRange, CostRange, Cut, TooFewObjects}
 use Rattle.auc_graph.specs.declared.stage.Stage.{Stage}
 use Rattle.auc_graph.specs.declared.stage.Stage.TheVariants.{AtCount, AtPerson, AtObject, AtCost}
-use Rattle.auc_graph.specs.declared.limits.TheConstants.{MOST_PERSONS, MOST_COST}
+use Rattle.auc_graph.specs.declared.limits.TheConstants.{MOST_COST}
 use Rattle.auc_graph.specs.Numbers.{numbers}
 use Rattle.auc_graph.specs.Problem.{Problem}
 
@@ -48,20 +48,20 @@ room limit before = if nat_le limit before then Err TooManyArcs else Ok before
 abbrev pub objects_for : ℕ → ℕ → Result ℕ ReadError
 objects_for wanted persons = if wanted == 0 then Ok persons else (if nat_lt wanted persons then Err TooFewObjects else Ok wanted)
 
--- The stage and the arcs after some numbers of a text, or the first fault in them. The first stage has the number of
--- objects wanted. A later one has the numbers of persons and objects, and of the next arc the person and the object as
+-- The stage and the arcs after some numbers of a text, or the first fault in them. The first stage has the greatest
+-- number of persons, and the number of objects wanted. A later one has the numbers of persons and objects, and of the next arc the person and the object as
 -- far as they have been read.
 abbrev pub State : Type 0
 State = Result (Stage × List Arc) ReadError
 
-abbrev pub start : ℕ → State
-start wanted = Ok (AtCount wanted, [])
+abbrev pub start : ℕ → ℕ → State
+start most wanted = Ok (AtCount most wanted, [])
 
 -- The state after the next number, from a stage and the arcs so far. The first number of arc k is token 1 + 3 * k, all
 -- counted from 0.
 unfoldable pub step_at : ℕ → Stage → List Arc → Number → State
-step_at limit (AtCount wanted) arcs x = do
-  before ← index MOST_PERSONS 0 CountRange x
+step_at limit (AtCount most wanted) arcs x = do
+  before ← index most 0 CountRange x
   objects ← objects_for wanted (before + 1)
   Ok (AtPerson (before + 1) objects, arcs)
 step_at limit (AtPerson persons objects) arcs x = do
@@ -82,7 +82,7 @@ step limit (Err e) x = Err e
 
 -- the result where the text ends at this stage
 unfoldable pub finish_at : Stage → List Arc → Result Problem ReadError
-finish_at (AtCount wanted) arcs = Err Empty
+finish_at (AtCount most wanted) arcs = Err Empty
 finish_at (AtPerson persons objects) arcs = Ok (problem persons objects arcs)
 finish_at (AtObject persons objects person) arcs = Err (Cut (3 * length arcs + 2))
 finish_at (AtCost persons objects person object) arcs = Err (Cut (3 * length arcs + 3))
@@ -95,6 +95,6 @@ finish (Err e) = Err e
 unfoldable pub reading_on : ℕ → State → List Number → Result Problem ReadError
 reading_on limit state xs = finish (fold (step limit) state xs)
 
--- the result of reading a text, under a limit of arcs and with this number of objects wanted
-abbrev pub reading : ℕ → ℕ → List ℕ → Result Problem ReadError
-reading limit wanted text = reading_on limit (start wanted) (numbers text)
+-- the result of reading a text, under a limit of persons and one of arcs, and with this number of objects wanted
+abbrev pub reading : ℕ → ℕ → ℕ → List ℕ → Result Problem ReadError
+reading most limit wanted text = reading_on limit (start most wanted) (numbers text)

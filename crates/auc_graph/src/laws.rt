@@ -12,7 +12,10 @@ ghost use Rattle.auc_graph.specs.Price.{IsPrice};
 ghost use Rattle.auc_graph.specs.Dual.{scale_of, dual, is_lower, IsLower, IsSlackRight, AreNotNegative, AreFewPriced};
 ghost use Rattle.auc_graph.specs.Dual.{IsNoPriceLeft, EachHasArc};
 
-use crate::limits::{MOST_ARCS, MOST_COST, MOST_OBJECTS, MOST_PERSONS, MOST_PRICE, MOST_READS};
+use crate::limits::{
+    MOST_ARCS, MOST_COST, MOST_OBJECTS, MOST_PERSONS, MOST_PRICE, MOST_READS, MOST_SCALE,
+    TEXT_ARCS, TEXT_OBJECTS, TEXT_PERSONS,
+};
 
 /// Weak duality: at prices that aren't negative no assignment costs, scaled, less than the dual bound. So none costs
 /// less than the least number that reaches this bound when scaled. There may be more objects than persons.
@@ -71,11 +74,13 @@ pub fn prices_are_few()
 {}
 
 /// The problem of a text has the wanted number of objects: as many as persons where this is 0, else this number, which
-/// is not below that of the persons.
+/// is not below that of the persons. It has no more persons than the limit of reading.
 pub fn wanted_objects_are_read()
-    ensures objects { (limit wanted : ℕ) (text : List ℕ) (p : Problem) → reading limit wanted text ≡ Ok p
+    ensures objects { (most limit wanted : ℕ) (text : List ℕ) (p : Problem) → reading most limit wanted text ≡ Ok p
         → objects_for wanted p.persons ≡ Ok p.objects }
-    ensures square { (limit : ℕ) (text : List ℕ) (p : Problem) → reading limit 0 text ≡ Ok p → IsSquare p }
+    ensures square { (most limit : ℕ) (text : List ℕ) (p : Problem) → reading most limit 0 text ≡ Ok p → IsSquare p }
+    ensures persons { (most limit wanted : ℕ) (text : List ℕ) (p : Problem) → reading most limit wanted text ≡ Ok p
+        → p.persons ≤ most }
 {}
 
 /// Where there is an assignment each person has an arc, as the dual bound needs it.
@@ -85,9 +90,11 @@ pub fn assigned_persons_have_arcs()
 
 /// The numbers of the limits.
 pub fn limits_are()
-    ensures persons { MOST_PERSONS ≡ 10000 }
-    ensures objects { MOST_OBJECTS ≡ 20000 }
-    ensures arcs { MOST_ARCS ≡ 33554432 }
+    ensures persons { MOST_PERSONS ≡ 2 ^ 22 }
+    ensures objects { MOST_OBJECTS ≡ 2 ^ 22 }
+    ensures arcs { MOST_ARCS ≡ 2 ^ 28 }
+    ensures scale { MOST_SCALE ≡ pos (2 ^ 22 + 1) }
+    ensures text { (TEXT_PERSONS ≡ 10000) × (TEXT_OBJECTS ≡ 20000) × (TEXT_ARCS ≡ 33554432) }
     ensures reads { MOST_READS ≡ 1073741824 }
     ensures cost { MOST_COST ≡ pos 1000000000 }
     ensures price { MOST_PRICE ≡ pos (2 ^ 61) }

@@ -36,7 +36,10 @@ pub use laws::{
     assigned_persons_have_arcs, assignments_leave_no_price, bounds_fit, limits_are, prices_are_few,
     prices_bound_costs, slack_right_costs_least, wanted_objects_are_read,
 };
-pub use limits::{MOST_ARCS, MOST_COST, MOST_OBJECTS, MOST_PERSONS, MOST_PRICE, MOST_READS};
+pub use limits::{
+    MOST_ARCS, MOST_COST, MOST_OBJECTS, MOST_PERSONS, MOST_PRICE, MOST_READS, MOST_SCALE,
+    TEXT_ARCS, TEXT_OBJECTS, TEXT_PERSONS,
+};
 pub use list_faults::ListFault;
 pub use number::{Number, number_of};
 pub use read_error::ReadError;

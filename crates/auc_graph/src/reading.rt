@@ -4,10 +4,10 @@ ghost use Rattle.std.specs.Prelude.{◌≡◌, ◌≤◌, ◌<◌, List, ℕ, le
 ghost use Rattle.std.specs.Io.KnownBytes.{Consumes};
 ghost use Rattle.auc_graph.specs.Memory.{AnswersUnless};
 ghost use Rattle.auc_graph.specs.Reading.{reading};
-ghost use Rattle.auc_graph.specs.Pieces.{IsRead};
+ghost use Rattle.auc_graph.specs.Pieces.{AreReadLimits, IsRead};
 
 use crate::arc::ArcList;
-use crate::limits::{MOST_ARCS, MOST_OBJECTS, MOST_READS};
+use crate::limits::{MOST_READS, TEXT_ARCS, TEXT_PERSONS};
 use crate::pieces::{is_want_of_memory, known_behind, problem_behind, stage_behind};
 use crate::read_error::ReadError;
 use crate::stage::Stage;
@@ -19,10 +19,11 @@ use std::io::Read;
 /// The greatest number of bytes that are taken of a reader at a time.
 const PIECE: usize = 65_536;
 
-/// The limits of reading: the number of arcs, and of calls of `read` of a reader. And the number of objects of the
-/// problem.
+/// The limits of reading: the number of persons, of arcs, and of calls of `read` of a reader. And the number of objects
+/// of the problem.
 #[derive(Clone, Copy, Debug, PartialEq, Eq)]
 pub struct ReadLimits {
+    pub persons: u32,
     pub arcs: u32,
     pub reads: u32,
     /// The number of objects; 0 means as many as persons.
@@ -30,14 +31,16 @@ pub struct ReadLimits {
 }
 
 impl ReadLimits {
-    /// The greatest limits that a caller may ask for, with as many objects as persons.
+    /// The usual limits, with as many objects as persons.
     pub fn usual() -> Self
-        ensures arcs { result.arcs ≡ MOST_ARCS }
+        ensures persons { result.persons ≡ TEXT_PERSONS }
+        ensures arcs { result.arcs ≡ TEXT_ARCS }
         ensures reads { result.reads ≡ MOST_READS }
         ensures objects { result.objects ≡ 0 }
     {
         ReadLimits {
-            arcs: MOST_ARCS,
+            persons: TEXT_PERSONS,
+            arcs: TEXT_ARCS,
             reads: MOST_READS,
             objects: 0,
         }
@@ -50,6 +53,7 @@ impl ReadLimits {
 /// tokens after it are an arc: person, object, cost. In the text persons and objects are numbered from 1. The same pair
 /// listed twice is two arcs, and no arc at all is a lawful list.
 ///
+/// - `limits.persons` is the greatest number of persons.
 /// - `limits.objects` is the number of objects; 0 means as many as persons.
 /// - `limits.arcs` is the greatest number of arcs that are read.
 /// - `limits.reads` is ignored here.
@@ -63,13 +67,16 @@ impl ReadLimits {
 ///
 /// Takes O(length) time and 16 bytes of memory an arc.
 pub fn read_arcs(alloc: Global, bytes: &[u8], limits: ReadLimits) -> Result<ArcList, ReadError>
-    requires arcs { limits.arcs ≤ MOST_ARCS }
-    requires objects { limits.objects ≤ MOST_OBJECTS }
-    ensures { AnswersUnless ReadError.NoMemory (λ p. p) result (λ r. reading limits.arcs limits.objects bytes.now ≡ r) }
+    requires limits { AreReadLimits limits }
+    ensures { AnswersUnless ReadError.NoMemory (λ p. p) result (λ r. reading limits.persons limits.arcs
+        limits.objects bytes.now ≡ r) }
 {
-    let wanted = limits.objects;
     let mut arcs = Vec::new(alloc);
-    let (stage, left) = stage_behind(limits.arcs, Stage::AtCount { wanted }, &mut arcs, bytes)?;
+    let first = Stage::AtCount {
+        most: limits.persons,
+        wanted: limits.objects,
+    };
+    let (stage, left) = stage_behind(limits.arcs, first, &mut arcs, bytes)?;
     let token = from_place(bytes, bytes.len() - left);
     problem_behind(limits.arcs, stage, arcs, token)
 }
@@ -77,9 +84,10 @@ pub fn read_arcs(alloc: Global, bytes: &[u8], limits: ReadLimits) -> Result<ArcL
 /// The problem that the text of a reader reads as, as [`read_arcs`] says, or the first fault. No more of the text is
 /// kept than 32 bytes of a token that isn't finished.
 ///
-/// `limits.objects` is the number of objects, `limits.arcs` the greatest number of arcs that are read, and
-/// `limits.reads` that of calls of `read`, the one that finds the end among them. A read that gives no bytes is the
-/// end; the reader is read up to there, also where a fault of the text was seen before.
+/// `limits.persons` is the greatest number of persons, `limits.objects` the number of objects, `limits.arcs` the
+/// greatest number of arcs that are read, and `limits.reads` that of calls of `read`, the one that finds the end among
+/// them. A read that gives no bytes is the end; the reader is read up to there, also where a fault of the text was seen
+/// before.
 ///
 /// # Errors
 ///
@@ -95,9 +103,8 @@ pub fn read_arcs_from<R: Read>(
     reader: &mut R,
     limits: ReadLimits,
 ) -> Result<ArcList, ReadError>
-    requires arcs { limits.arcs ≤ MOST_ARCS }
+    requires limits { AreReadLimits limits }
     requires reads { limits.reads ≤ MOST_READS }
-    requires objects { limits.objects ≤ MOST_OBJECTS }
     // A text was taken, all that the reader had unless it says otherwise; the answer is that of the whole text.
     ensures { (text : List ℕ) × Consumes (R.remaining reader.old) (R.remaining reader.new) text
         × IsRead limits (R.remaining reader.new) text result }
@@ -114,16 +121,17 @@ fn read_by_pieces<R: Read>(
     limits: ReadLimits,
     piece: &mut [u8],
 ) -> Result<ArcList, ReadError>
-    requires arcs { limits.arcs ≤ MOST_ARCS }
-    requires objects { limits.objects ≤ MOST_OBJECTS }
+    requires limits { AreReadLimits limits }
     // The bytes that are kept of an unfinished token leave room for one more byte.
     requires room { MOST_KEPT < length piece.old }
     ensures { (text : List ℕ) × Consumes (R.remaining reader.old) (R.remaining reader.new) text
         × IsRead limits (R.remaining reader.new) text result }
 {
     let mut arcs = Vec::new(alloc);
-    let wanted = limits.objects;
-    let mut known = Ok(Stage::AtCount { wanted });
+    let mut known = Ok(Stage::AtCount {
+        most: limits.persons,
+        wanted: limits.objects,
+    });
     let mut kept = 0;
     for _done in 0..limits.reads {
         let Ok(count) = reader.read(&mut piece[kept..]) else {

@@ -1,9 +1,9 @@
 //! Reads one number after another: the kind of the next one.
 
-ghost use Rattle.std.specs.Prelude.{◌≡◌, ◌≤◌, ◌<◌, ◌⊎◌, ℕ, List, [], neg_ℤ, ◌≤ℤ◌, IfOk};
+ghost use Rattle.std.specs.Prelude.{◌≡◌, ◌≤◌, ◌<◌, ◌⊎◌, ℕ, List, [], ◌≤ℤ◌, IfOk};
 ghost use Rattle.auc_graph.specs.declared.stage.Stage.TheVariants.{AtCount, AtPerson, AtObject};
 ghost use Rattle.auc_graph.specs.Memory.{AnswersUnless};
-ghost use Rattle.auc_graph.specs.Reading.{within, index, cost, objects_for, step_at, finish_at};
+ghost use Rattle.auc_graph.specs.Reading.{within, index, objects_for, step_at, finish_at};
 ghost use Rattle.auc_graph.specs.Pieces.{IsStage};
 
 use crate::arc::{Arc, ArcList};
@@ -14,8 +14,9 @@ use crate::read_error::ReadError;
 /// The kind of the next number of a text, and the state by then.
 #[derive(Clone, Copy, Debug, PartialEq, Eq)]
 pub enum Stage {
-    /// The number of persons; this many objects are wanted, or as many as persons where this is 0.
+    /// The number of persons, at most this; so many objects are wanted, or as many as persons where `wanted` is 0.
     AtCount {
+        most: u32,
         wanted: u32,
     },
     /// The person of the next arc, if there is one.
@@ -65,14 +66,6 @@ fn index_of(number: Number, most: u32, token: u64, range: ReadError) -> Result<u
     Ok((value - 1) as u32)
 }
 
-/// A cost within the limits.
-fn cost_of(number: Number, token: u64, range: ReadError) -> Result<i64, ReadError>
-    ensures exact { result ≡ cost token range number }
-    ensures bounds { IfOk result (λ z. (neg_ℤ MOST_COST ≤ℤ z) × (z ≤ℤ MOST_COST)) }
-{
-    within_of(number, -MOST_COST, MOST_COST, token, range)
-}
-
 /// The number of objects beside this number of persons.
 fn objects_of(wanted: u32, persons: u32) -> Result<u32, ReadError>
     ensures exact { result ≡ objects_for wanted persons }
@@ -91,14 +84,15 @@ fn objects_of(wanted: u32, persons: u32) -> Result<u32, ReadError>
 /// The stage after the number of persons.
 #[inline(always)]
 #[tactic(auto, unfolding(crate::specs::Reading::step_at))]
-fn after_count(wanted: u32, number: Number) -> Result<Stage, ReadError>
-    requires { wanted ≤ MOST_OBJECTS }
+fn after_count(most: u32, wanted: u32, number: Number) -> Result<Stage, ReadError>
+    requires most { most ≤ MOST_PERSONS }
+    requires wanted { wanted ≤ MOST_OBJECTS }
     ensures exact { (limit : ℕ) (arcs : List Arc)
         → AnswersUnless ReadError.NoMemory (λ stage. (stage, arcs)) result
-        (λ r. step_at limit (AtCount wanted) arcs number ≡ r) }
+        (λ r. step_at limit (AtCount most wanted) arcs number ≡ r) }
     ensures sound { (limit : ℕ) → IfOk result (λ stage. IsStage limit stage []) }
 {
-    let before = index_of(number, MOST_PERSONS, 0, ReadError::CountRange)?;
+    let before = index_of(number, most, 0, ReadError::CountRange)?;
     let persons = before + 1;
     let objects = objects_of(wanted, persons)?;
     Ok(Stage::AtPerson { persons, objects })
@@ -178,7 +172,7 @@ impl Stage {
         ensures sound { IfOk result (λ stage. IsStage limit stage arcs.new.items) }
     {
         match self {
-            Stage::AtCount { wanted } => after_count(wanted, number),
+            Stage::AtCount { most, wanted } => after_count(most, wanted, number),
             Stage::AtPerson { persons, objects } => {
                 after_person(limit, persons, objects, arcs.as_slice(), number)
             }
@@ -195,7 +189,7 @@ impl Stage {
             } => {
                 let before = arcs.len() as u64;
                 let fault = ReadError::CostRange { arc: before };
-                let cost = cost_of(number, 3 * before + 3, fault)?;
+                let cost = within_of(number, -MOST_COST, MOST_COST, 3 * before + 3, fault)?;
                 arcs.push(Arc {
                     person,
                     object,

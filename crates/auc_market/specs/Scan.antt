@@ -1,5 +1,6 @@
 -- One pass over a row: the least value and the second least.
 use Rattle.std.specs.Prelude.{ℕ, ℤ, pos, neg_ℤ, ◌≡◌, ◌≢◌, ◌⊎◌, ◌+◌, ◌-◌, ◌<◌, ◌^◌, ◌≤ℤ◌, ◌<ℤ◌, List, length, All, slice_index_or}
+use Rattle.auc_graph.specs.declared.limits.TheConstants.{MOST_SCALE}
 use Rattle.auc_graph.specs.Dual.{price_at}
 use Rattle.auc_graph.specs.Price.{IsPrice}
 use Rattle.auc_graph.specs.Value.{value_at}
@@ -17,13 +18,13 @@ endless = pos (2 ^ 63 - 1)
 
 -- the range of values that costs and prices within the limits can give
 pub record IsValue (v : ℤ) : Type 0 where
-  pub low : neg_ℤ (pos (2 ^ 44)) ≤ℤ v
-  pub high : v ≤ℤ pos (2 ^ 61 + 2 ^ 44)
+  pub low : neg_ℤ (pos (2 ^ 52)) ≤ℤ v
+  pub high : v ≤ℤ pos (2 ^ 61 + 2 ^ 52)
 
 -- the range of the factor that scales costs, one more than the number of persons
 pub record IsScale (scale : ℤ) : Type 0 where
   pub low : pos 1 ≤ℤ scale
-  pub high : scale ≤ℤ pos 10001
+  pub high : scale ≤ℤ MOST_SCALE
 
 -- a row whose arcs lead to objects with prices, all in range
 pub record IsPricedRow (scale : ℤ) (prices : List ℤ) (row : List ShortArc) : Type 0 where

@@ -36,7 +36,7 @@ impl Bid {
 pub(crate) fn scaled_spread(rows: &FlatRows) -> i64
     ensures is { result ≡ scale_in rows.now *ℤ rows.now.spread }
     ensures low { pos 0 ≤ℤ result }
-    ensures high { result ≤ℤ pos (2 ^ 45) }
+    ensures high { result ≤ℤ pos (2 ^ 53) }
 {
     rows.scale() * rows.spread()
 }
@@ -51,7 +51,7 @@ fn margin_of(rows: &FlatRows, best: Best) -> i64
     ensures next { best.second <ℤ endless → result ≡ (best.second -ℤ best.value) }
     ensures only { endless ≤ℤ best.second → result ≡ scale_in rows.now *ℤ rows.now.spread }
     ensures low { pos 0 ≤ℤ result }
-    ensures high { result ≤ℤ pos (2 ^ 61 + 2 ^ 46) }
+    ensures high { result ≤ℤ pos (2 ^ 61 + 2 ^ 54) }
 {
     if best.second < i64::MAX {
         best.second - best.value
@@ -65,7 +65,7 @@ fn margin_of(rows: &FlatRows, best: Best) -> i64
 fn amount_of(price: i64, margin: i64, eps: i64) -> i64
     requires price { IsPrice price }
     requires margin_low { pos 0 ≤ℤ margin }
-    requires margin_high { margin ≤ℤ pos (2 ^ 61 + 2 ^ 46) }
+    requires margin_high { margin ≤ℤ pos (2 ^ 61 + 2 ^ 54) }
     requires eps { IsEps eps }
     ensures { result ≡ (price +ℤ margin) +ℤ eps }
 {

@@ -1,6 +1,6 @@
 -- Which input a refusal is about, and where in it. Tokens, lines, persons and objects are numbered from 0.
 use Rattle.std.specs.Prelude.{ℕ, zero, suc, ◌+◌, ◌*◌, ◌-◌, ◌^◌, min}
-use Rattle.auc_graph.specs.declared.limits.TheConstants.{MOST_ARCS}
+use Rattle.auc_graph.specs.declared.limits.TheConstants.{TEXT_ARCS, TEXT_PERSONS}
 use Rattle.auc_graph.specs.declared.read_error.ReadError.{ReadError}
 use Rattle.auc_graph.specs.declared.read_error.ReadError.TheVariants.{Empty, BadNumber, CountRange, TooManyArcs, PersonRange, ObjectRange, CostRange, Cut, NoMemory, ReadFault, TooManyReads, TooFewObjects}
 use Rattle.auc_claim.specs.declared.refused.CertRefused.{CertRefused}
@@ -33,7 +33,7 @@ abbrev pub spot_in_problem : ReadError → Spot
 spot_in_problem Empty = All
 spot_in_problem (BadNumber token) = Token token
 spot_in_problem CountRange = Token 0
-spot_in_problem TooManyArcs = token_of_arc MOST_ARCS 1
+spot_in_problem TooManyArcs = token_of_arc TEXT_ARCS 1
 spot_in_problem (PersonRange arc) = token_of_arc arc 1
 spot_in_problem (ObjectRange arc) = token_of_arc arc 2
 spot_in_problem (CostRange arc) = token_of_arc arc 3

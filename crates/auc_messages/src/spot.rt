@@ -6,7 +6,7 @@ ghost use Rattle.auc_messages.specs.Spots.{subject_of, token_of_arc};
 
 use auc_cert::CertTextError;
 use auc_claim::{CertRefused, StartError};
-use auc_graph::{MOST_ARCS, ReadError};
+use auc_graph::{ReadError, TEXT_ARCS, TEXT_PERSONS};
 use auc_run::{Job, Refusal, ScriptError};
 
 /// Which input of a job.
@@ -59,7 +59,7 @@ fn spot_in_problem(error: ReadError) -> Spot
     match error {
         ReadError::BadNumber { token } => Spot::Token(token),
         ReadError::CountRange | ReadError::TooFewObjects => Spot::Token(0),
-        ReadError::TooManyArcs => token_of_arc(MOST_ARCS as u64, 1),
+        ReadError::TooManyArcs => token_of_arc(TEXT_ARCS as u64, 1),
         ReadError::PersonRange { arc } => token_of_arc(arc, 1),
         ReadError::ObjectRange { arc } => token_of_arc(arc, 2),
         ReadError::CostRange { arc } => token_of_arc(arc, 3),

@@ -6,10 +6,10 @@ use Rattle.std.proofs.Math.Nat.{mul-le-mul_left}
 use Rattle.auc_graph.specs.Price.{IsPrice}
 use Rattle.auc_persons.specs.Scan.{IsValue}
 
-pub scaled_fits : (s w : ℤ) → unsigned_abs (s *ℤ w) ≤ 10001 * (2 * 10 ^ 9) → FitsSigned w64 (s *ℤ w)
+pub scaled_fits : (s w : ℤ) → unsigned_abs (s *ℤ w) ≤ 4194305 * (2 * 10 ^ 9) → FitsSigned w64 (s *ℤ w)
 scaled_fits s w h = omega (arith, ints, h)
 
-pub scaled_high : (s w : ℤ) → unsigned_abs (s *ℤ w) ≤ 10001 * (2 * 10 ^ 9) → (s *ℤ w) ≤ℤ pos (2 ^ 45)
+pub scaled_high : (s w : ℤ) → unsigned_abs (s *ℤ w) ≤ 4194305 * (2 * 10 ^ 9) → (s *ℤ w) ≤ℤ pos (2 ^ 53)
 scaled_high s w h = omega (arith, ints, h)
 
 pub diff_fits : (b a : ℤ) → IsValue b → IsValue a → FitsSigned w64 (b -ℤ a)

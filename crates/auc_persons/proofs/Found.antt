@@ -241,11 +241,11 @@ above_limit val row f a v l h is ok limit lt =
     after val f a v f.second is ok (inl above.0) (λ _. omega (arith, ints, above.1, is))
 
 -- no second is below all values
-met_low : (val : RowArc → ℤ) (row : List RowArc) (a : RowArc) (second : ℤ) → Met val row a second → neg_ℤ (pos (2 ^ 44)) ≤ℤ second
+met_low : (val : RowArc → ℤ) (row : List RowArc) (a : RowArc) (second : ℤ) → Met val row a second → neg_ℤ (pos (2 ^ 52)) ≤ℤ second
 met_low val row a second (inl e) = omega (arith, ints, e)
 met_low val row a second (inr m) = m.4.low
 
-pub found_low : (val : RowArc → ℤ) (row : List RowArc) (f : Scan) → IsFound val row f → neg_ℤ (pos (2 ^ 44)) ≤ℤ f.second
+pub found_low : (val : RowArc → ℤ) (row : List RowArc) (f : Scan) → IsFound val row f → neg_ℤ (pos (2 ^ 52)) ≤ℤ f.second
 found_low val row f h = met_low val row f.best f.second h.met
 
 -- ---- a whole row

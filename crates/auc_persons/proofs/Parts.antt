@@ -6,6 +6,7 @@ use Rattle.std.proofs.lemmas.Int.{ints}
 use Rattle.std.proofs.lemmas.Bool.{cases_lt}
 use Rattle.std.proofs.lemmas.List.{get_or_default}
 use Rattle.std.proofs.lemmas.List.Elements.{All-get_or}
+use Rattle.auc_graph.specs.declared.limits.TheConstants.{MOST_SCALE}
 use Rattle.auc_graph.specs.declared.rows.RowArc.{RowArc}
 use Rattle.auc_graph.specs.Bid.{value}
 use Rattle.auc_graph.specs.Table.{IsRow, IsRowArc}
@@ -50,7 +51,7 @@ above_more val row from i least next lt all low here k d le below _ = above_by v
 
 -- ---- the values of a row
 
-pub value_range : (scale : ℤ) (copies : List ℤ) (a : RowArc) → pos 1 ≤ℤ scale → scale ≤ℤ pos 10001 → IsRowArc (length copies) a → All IsPrice copies → IsValue (value scale (copy_in copies) a)
+pub value_range : (scale : ℤ) (copies : List ℤ) (a : RowArc) → pos 1 ≤ℤ scale → scale ≤ℤ MOST_SCALE → IsRowArc (length copies) a → All IsPrice copies → IsValue (value scale (copy_in copies) a)
 value_range scale copies a low high is prices =
     let below = product_below scale a.cost low high is.low is.high in
     let price = All-get_or IsPrice copies a.object (pos 0) is.object prices in
@@ -67,7 +68,7 @@ covered_blocks val row f from to k d before inside lt = by (cases_lt k (16 * fro
     by (inr le) = inside le lt
 
 -- arcs above a limit are covered
-pub covered_above : (scale : ℤ) (copies : List ℤ) (row : List RowArc) (f : Scan) (limit : ℤ) (k : ℕ) (d : RowArc) → pos 1 ≤ℤ scale → scale ≤ℤ pos 10001 → IsRow (length copies) row → All IsPrice copies → IsFound (value scale (copy_in copies)) row f → IsLimit f limit → limit <ℤ value scale (copy_in copies) (get_or row k d) → k < length row → Covers (value scale (copy_in copies)) f (get_or row k d)
+pub covered_above : (scale : ℤ) (copies : List ℤ) (row : List RowArc) (f : Scan) (limit : ℤ) (k : ℕ) (d : RowArc) → pos 1 ≤ℤ scale → scale ≤ℤ MOST_SCALE → IsRow (length copies) row → All IsPrice copies → IsFound (value scale (copy_in copies)) row f → IsLimit f limit → limit <ℤ value scale (copy_in copies) (get_or row k d) → k < length row → Covers (value scale (copy_in copies)) f (get_or row k d)
 covered_above scale copies row f limit k d low high is prices found far lt within =
     let range = value_range scale copies (get_or row k d) low high (is.within k d within) prices in
     above_limit (value scale (copy_in copies)) row f (get_or row k d) (value scale (copy_in copies) (get_or row k d)) limit found refl range far lt

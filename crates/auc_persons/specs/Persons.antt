@@ -1,5 +1,6 @@
 -- A shard of the persons, as callers see it, and the result of each call.
 use Rattle.std.specs.Prelude.{◌≡◌, ◌≢◌, ◌<◌, ◌≤◌, ◌+◌, ◌-◌, ◌%◌, ◌^◌, ℕ, ℤ, pos, ◌≤ℤ◌, ◌<ℤ◌, List, [], ◌∷◌, ◌++◌, Result, Ok, Err, length, drop, All, slice_index_or, slice_set, count_by}
+use Rattle.auc_graph.specs.declared.limits.TheConstants.{MOST_PERSONS}
 use Rattle.auc_graph.specs.declared.rows.RowArc.{RowArc}
 use Rattle.auc_graph.specs.Table.{Table, row_of}
 use Rattle.auc_letters.specs.declared.letter.Letter.{Letter}
@@ -29,7 +30,7 @@ pub record Persons : Type 0 where
 pub record ArePersons (s : Persons) : Type 0 where
   pub known : s.shard < s.of
   pub shards : 0 < s.object_shards
-  pub few : length s.states ≤ 10000
+  pub few : length s.states ≤ MOST_PERSONS
   pub copies_are : All IsPrice s.copies
   pub idle_are : All (λ i. i < length s.states) s.idle
   pub room : length s.idle ≤ count_by is_free s.states

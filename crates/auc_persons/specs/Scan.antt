@@ -13,8 +13,8 @@ endless = pos (2 ^ 63 - 1)
 
 -- the range of values that costs and prices within the limits can give
 pub record IsValue (v : ℤ) : Type 0 where
-  pub low : neg_ℤ (pos (2 ^ 44)) ≤ℤ v
-  pub high : v ≤ℤ pos (2 ^ 61 + 2 ^ 44)
+  pub low : neg_ℤ (pos (2 ^ 52)) ≤ℤ v
+  pub high : v ≤ℤ pos (2 ^ 61 + 2 ^ 52)
 
 -- a value of an arc to another object, or `endless` where there is none
 abbrev pub Reached : (RowArc → ℤ) → List RowArc → RowArc → ℤ → Type 0

@@ -18,7 +18,7 @@ pub const NEXT_PART: i64 = 5;
 fn scaled_spread(rows: &Rows) -> i64
     ensures is { result ≡ scaled_spread rows.now }
     ensures low { pos 0 ≤ℤ result }
-    ensures high { result ≤ℤ pos (10001 * (2 * 10 ^ 9)) }
+    ensures high { result ≤ℤ pos (2 ^ 53) }
 {
     let scale = i64::from(rows.persons()) + 1;
     scale * rows.cost_spread()

@@ -1,6 +1,7 @@
 //! The rows of a problem, in arcs of eight bytes.
 
 ghost use Rattle.std.specs.Prelude.{◌≡◌, ◌<◌, ◌≤◌, ◌*◌, ◌^◌, pos, ◌≤ℤ◌, All, length, IfOk};
+ghost use Rattle.auc_graph.specs.declared.limits.TheConstants.{MOST_SCALE};
 ghost use Rattle.auc_rows.specs.Rows.{AreRowsOf, IsShort, flat_row_of};
 ghost use Rattle.auc_rows.specs.Layout.{IsLaidOut, part};
 
@@ -130,7 +131,7 @@ impl FlatRows {
     pub fn scale(&self) -> i64
         ensures is { result ≡ scale_in self.now }
         ensures low { pos 1 ≤ℤ result }
-        ensures high { result ≤ℤ pos 10001 }
+        ensures high { result ≤ℤ MOST_SCALE }
         ensures sound { IsFlatTable self.now }
     {
         i64::from(self.persons()) + 1

@@ -4,7 +4,7 @@ use Rattle.std.specs.Prelude.{IfSome, IsErrAnd, replicate}
 use Rattle.std.specs.Io.KnownBytes.{Consumes, IsAtEnd}
 use Rattle.std.proofs.KnownBytes.{Consumes-whole}
 use Rattle.std.proofs.lemmas.List.{length-append, length-replicate}
-use Rattle.auc_graph.specs.declared.limits.TheConstants.{MOST_ARCS, MOST_READS}
+use Rattle.auc_graph.specs.declared.limits.TheConstants.{MOST_READS, TEXT_ARCS, TEXT_PERSONS}
 use Rattle.auc_graph.specs.declared.read_error.ReadError.{ReadError}
 use Rattle.auc_graph.specs.declared.read_error.ReadError.TheVariants.{Empty, BadNumber, CountRange, TooManyArcs, PersonRange, ObjectRange, CostRange, Cut, NoMemory, ReadFault, TooManyReads, TooFewObjects}
 use Rattle.auc_graph.specs.declared.reading.ReadLimits.{ReadLimits}
@@ -32,10 +32,10 @@ many None new text n c le = (text, tt, le)
 many (Some xs) None text n c le = absurd c
 many (Some xs) (Some ys) text n c le = (xs, refl, omega (arith, ap length c, length-append text ys, le))
 
-module _ (limits : ReadLimits) (old new : Option (List ℕ)) (text : List ℕ) (arcs_is : limits.arcs ≡ MOST_ARCS) (reads_is : limits.reads ≡ MOST_READS) (objects : ℕ) (objects_is : limits.objects ≡ objects) (taken : Consumes old new text) where
+module _ (limits : ReadLimits) (old new : Option (List ℕ)) (text : List ℕ) (persons_is : limits.persons ≡ TEXT_PERSONS) (arcs_is : limits.arcs ≡ TEXT_ARCS) (reads_is : limits.reads ≡ MOST_READS) (objects : ℕ) (objects_is : limits.objects ≡ objects) (taken : Consumes old new text) where
   -- at the end the whole file was taken
-  whole : (answer : Result Problem ReadError) → IsAtEnd new × (reading limits.arcs limits.objects text ≡ answer) → (file : List ℕ) × AreKnown old file × (reading MOST_ARCS objects file ≡ answer)
-  whole answer h = (text, Consumes-whole old new text (λ xs. text ≡ xs) taken h.0 refl, ap (λ (n : ℕ). reading n objects text) (sym arcs_is) ∙ ap (λ (m : ℕ). reading limits.arcs m text) (sym objects_is) ∙ h.1)
+  whole : (answer : Result Problem ReadError) → IsAtEnd new × (reading limits.persons limits.arcs limits.objects text ≡ answer) → (file : List ℕ) × AreKnown old file × (reading TEXT_PERSONS TEXT_ARCS objects file ≡ answer)
+  whole answer h = (text, Consumes-whole old new text (λ xs. text ≡ xs) taken h.0 refl, ap (λ (k : ℕ). reading k TEXT_ARCS objects text) (sym persons_is) ∙ ap (λ (n : ℕ). reading limits.persons n objects text) (sym arcs_is) ∙ ap (λ (m : ℕ). reading limits.persons limits.arcs m text) (sym objects_is) ∙ h.1)
 
   pub read_in : (answer : Result Problem ReadError) → IsRead limits new text answer → (file : List ℕ) × AreKnown old file × ReadsAsProblem objects file answer
   read_in (Ok p) h = whole (Ok p) h

@@ -1,6 +1,6 @@
 -- The problem that a reader has, or why a job on it is refused.
 use Rattle.std.specs.Prelude.{◌≡◌, ◌≤◌, ℕ, List, length, Option, IfSome, Result, Ok, Err, ⊤}
-use Rattle.auc_graph.specs.declared.limits.TheConstants.{MOST_ARCS, MOST_READS}
+use Rattle.auc_graph.specs.declared.limits.TheConstants.{MOST_READS, TEXT_ARCS, TEXT_PERSONS}
 use Rattle.auc_graph.specs.declared.read_error.ReadError.{ReadError}
 use Rattle.auc_graph.specs.declared.read_error.ReadError.TheVariants.{NoMemory, ReadFault, TooManyReads}
 use Rattle.auc_graph.specs.Problem.{Problem}
@@ -10,13 +10,17 @@ use Rattle.auc_run.specs.declared.input.ReadFault.TheVariants.{Failed, TooManyRe
 use Rattle.auc_run.specs.declared.refusal.Refusal.{Refusal}
 use Rattle.auc_run.specs.declared.refusal.Refusal.TheVariants.{NotRead, NoProblem, NoCertificate, Invalid, NoStart, NoScript, NoMemory as NoMemoryForJob, NoThreads}
 
+-- what a file reads as, with so many objects, under the usual limits
+abbrev pub file_reading : ℕ → List ℕ → Result Problem ReadError
+file_reading objects file = reading TEXT_PERSONS TEXT_ARCS objects file
+
 -- A file reads as this problem, with so many objects, where 0 stands for as many as persons, or by this first fault as
 -- none. Of a read that failed, and of want of memory, nothing is known; too many reads have each taken a byte.
 abbrev pub ReadsAsProblem : ℕ → List ℕ → Result Problem ReadError → Type 0
 ReadsAsProblem objects file (Err NoMemory) = ⊤
 ReadsAsProblem objects file (Err ReadFault) = ⊤
 ReadsAsProblem objects file (Err TooManyReads) = MOST_READS ≤ length file
-ReadsAsProblem objects file answer = reading MOST_ARCS objects file ≡ answer
+ReadsAsProblem objects file answer = file_reading objects file ≡ answer
 
 -- the problem that a file reads as
 abbrev pub IsProblemOf : ℕ → List ℕ → Problem → Type 0

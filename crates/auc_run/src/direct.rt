@@ -1,7 +1,7 @@
 //! The job of a direct solve, and which of the two solvers does a solve without threads.
 
 ghost use Rattle.std.specs.Prelude.{◌≡◌, ◌≤◌, true, false, IfSome, IsErr};
-ghost use Rattle.auc_graph.specs.Reading.{reading};
+ghost use Rattle.auc_run.specs.Problems.{file_reading};
 ghost use Rattle.auc_run.specs.Solutions.{IsDirectIn, watched};
 ghost use Rattle.auc_run.specs.Starts.{IsSolvedFromIn, IsSolvingIn};
 
@@ -12,7 +12,6 @@ use crate::solve::answer_plainly;
 use crate::start::started_of;
 use auc_answers::Answer;
 use auc_direct::{DirectLimits, Watch, solve_direct_watched, solve_direct_watched_from};
-use auc_graph::MOST_ARCS;
 use std::alloc::Global;
 use std::io::Read;
 
@@ -46,7 +45,7 @@ fn direct_answer_from<R: Read, Q: Read, V: Watch>(
     ensures from { IsSolvedFromIn (watched (V.has_stopped watch.new) (V.was_asked watch.new)) numbers
         (R.remaining reader.old)
         (Q.remaining second.old) result }
-    ensures unread { IfSome (R.remaining reader.old) (λ file. IsErr (reading MOST_ARCS numbers.objects file)
+    ensures unread { IfSome (R.remaining reader.old) (λ file. IsErr (file_reading numbers.objects file)
         → second.new ≡ second.old) }
 {
     let started = started_of(alloc, reader, second, numbers.objects, true)?;
@@ -70,7 +69,7 @@ pub(crate) fn answer_alone<R: Read, Q: Read, V: Watch>(
     ensures solving { IsSolvingIn (watched (V.has_stopped watch.new) (V.was_asked watch.new)) numbers
         (R.remaining reader.old)
         (Q.remaining second.old) result }
-    ensures unread { IfSome (R.remaining reader.old) (λ file. IsErr (reading MOST_ARCS numbers.objects file)
+    ensures unread { IfSome (R.remaining reader.old) (λ file. IsErr (file_reading numbers.objects file)
         → second.new ≡ second.old) }
     ensures alone { numbers.from ≡ false → second.new ≡ second.old }
 {

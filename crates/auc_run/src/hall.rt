@@ -1,7 +1,7 @@
 //! The job of a hall: a problem is read, and each person gets an arc, or a Hall violator is named.
 
 ghost use Rattle.std.specs.Prelude.{◌≡◌, ◌≤◌, IfOk};
-ghost use Rattle.auc_claim.specs.Spelled.{AreNamed};
+ghost use Rattle.auc_claim.specs.InRange.{AreNamesInRange};
 ghost use Rattle.auc_cert.specs.Writing.{Writes};
 ghost use Rattle.auc_run.specs.Completions.{IsFound, IsFoundIn, IsSmall, found_text};
 
@@ -18,10 +18,10 @@ use std::io::{Read, Write};
 
 /// The certificate that names these persons and objects.
 fn certificate_of(persons: Indices, objects: Indices) -> Cert
-    requires { AreNamed persons objects }
+    requires { AreNamesInRange persons objects }
     ensures { result ≡ CertParts.Infeasible persons objects }
 {
-    match Cert::make(CertParts::Infeasible { persons, objects }) {
+    match Cert::make_wide(CertParts::Infeasible { persons, objects }) {
         Ok(cert) => cert,
         Err(_) => unreachable!("the numbers rise, and are those of a problem"),
     }

@@ -1,7 +1,7 @@
 //! What a job comes to: its outcome, what is written, and its status.
 
 ghost use Rattle.std.specs.Prelude.{◌≡◌, ◌≢◌, ◌≤◌, false, IfOk, IfSome, IsErr};
-ghost use Rattle.auc_graph.specs.Reading.{reading};
+ghost use Rattle.auc_run.specs.Problems.{file_reading};
 ghost use Rattle.auc_run.specs.Jobs.{IsInRange, IsPlain, has_second, objects_of, solve_by};
 ghost use Rattle.auc_run.specs.Reports.{IsWritable};
 ghost use Rattle.auc_run.specs.Said.{Ended, IsOutcome, Said, SaidInPart};
@@ -17,7 +17,7 @@ use crate::report::{Report, tell};
 use crate::solve::answer_in_threads;
 use crate::verdict::verdict_of;
 use auc_direct::{Onward, Watch};
-use auc_graph::{MOST_ARCS, MOST_READS};
+use auc_graph::MOST_READS;
 use auc_threads::Gate;
 use std::alloc::Global;
 use std::io::{Read, Write};
@@ -39,7 +39,7 @@ fn outcome_of<R: Read, Q: Read, V: Watch>(
         (Q.remaining second.old) result }
     ensures writable { IfOk result IsWritable }
     ensures unread { IfSome (R.remaining reader.old)
-        (λ file. IsErr (reading MOST_ARCS (objects_of job.now) file) → second.new ≡ second.old) }
+        (λ file. IsErr (file_reading (objects_of job.now) file) → second.new ≡ second.old) }
     ensures alone { has_second job.now ≡ false → second.new ≡ second.old }
 {
     match job {
@@ -84,7 +84,7 @@ fn outcome_by_threads<H: Threads + Wait + Sync, R: Read, Q: Read, G: Gate + Sync
     ensures outcome { (w : Watched) → IsOutcome w (solve_by numbers) (R.remaining reader.old)
         (Q.remaining second.old) result }
     ensures writable { IfOk result IsWritable }
-    ensures unread { IfSome (R.remaining reader.old) (λ file. IsErr (reading MOST_ARCS numbers.objects file)
+    ensures unread { IfSome (R.remaining reader.old) (λ file. IsErr (file_reading numbers.objects file)
         → second.new ≡ second.old) }
     ensures alone { numbers.from ≡ false → second.new ≡ second.old }
 {
@@ -106,7 +106,7 @@ fn perform_plainly<R: Read, Q: Read, W: Write, V: Watch>(
     ensures ended { Ended (watched (V.has_stopped watch.new) (V.was_asked watch.new)) job.now (R.remaining reader.old)
         (Q.remaining second.old) (W.contents writer.old) (W.contents writer.new) result }
     ensures unread { IfSome (R.remaining reader.old)
-        (λ file. IsErr (reading MOST_ARCS (objects_of job.now) file) → second.new ≡ second.old) }
+        (λ file. IsErr (file_reading (objects_of job.now) file) → second.new ≡ second.old) }
     ensures alone { has_second job.now ≡ false → second.new ≡ second.old }
 {
     let outcome = outcome_of(alloc, job, reader, second, watch);
@@ -147,7 +147,7 @@ pub fn run_plain<R: Read, Q: Read, W: Write>(
         (W.contents writer.new) }
     // A certificate for what is no problem is left unread.
     ensures unread { IfSome (R.remaining reader.old)
-        (λ file. IsErr (reading MOST_ARCS (objects_of job.now) file) → second.new ≡ second.old) }
+        (λ file. IsErr (file_reading (objects_of job.now) file) → second.new ≡ second.old) }
     // Only a check, and a solve that starts from a certificate, has a second input.
     ensures alone { has_second job.now ≡ false → second.new ≡ second.old }
 {
@@ -184,7 +184,7 @@ pub fn perform<H: Threads + Wait + Sync, R: Read, Q: Read, W: Write, G: Gate + S
         (Q.remaining second.old) (W.contents writer.old) (W.contents writer.new) result }
     // A certificate for what is no problem is left unread.
     ensures unread { IfSome (R.remaining reader.old)
-        (λ file. IsErr (reading MOST_ARCS (objects_of job.now) file) → second.new ≡ second.old) }
+        (λ file. IsErr (file_reading (objects_of job.now) file) → second.new ≡ second.old) }
     // Only a check, and a solve that starts from a certificate, has a second input.
     ensures alone { has_second job.now ≡ false → second.new ≡ second.old }
 {
@@ -241,7 +241,7 @@ pub fn run_command<H: Threads + Wait + Sync, R: Read, Q: Read, W: Write, G: Gate
         (W.contents writer.new) }
     // A certificate for what is no problem is left unread.
     ensures unread { IfSome (R.remaining reader.old)
-        (λ file. IsErr (reading MOST_ARCS (objects_of job.now) file) → second.new ≡ second.old) }
+        (λ file. IsErr (file_reading (objects_of job.now) file) → second.new ≡ second.old) }
     // Only a check, and a solve that starts from a certificate, has a second input.
     ensures alone { has_second job.now ≡ false → second.new ≡ second.old }
 {

@@ -3,7 +3,7 @@
 
 ghost use Rattle.std.specs.Prelude.{◌≡◌, ◌≤◌, false, IfSome, IsErr};
 ghost use Rattle.auc_cert.specs.Writing.{Writes};
-ghost use Rattle.auc_graph.specs.Reading.{reading};
+ghost use Rattle.auc_run.specs.Problems.{file_reading};
 ghost use Rattle.auc_run.specs.Jobs.{IsInRange, solve_by};
 ghost use Rattle.auc_run.specs.Solutions.{IsSolvedByThreadsIn, IsSolvedIn, Watched, answer_text, guard_line, limits_of};
 ghost use Rattle.auc_run.specs.Solutions.{thread_limits_of};
@@ -14,7 +14,6 @@ use crate::problem::problem_of;
 use crate::refusal::Refusal;
 use crate::start::started_of;
 use auc_cert::{WriteFault, write_cert, write_whole};
-use auc_graph::MOST_ARCS;
 use auc_threads::{Gate, solve_threads, solve_threads_from};
 use auc_world::{Answer, Guard, Limits, solve_serial, solve_serial_from};
 use std::alloc::Global;
@@ -57,7 +56,7 @@ fn answer_from<R: Read, Q: Read>(
     requires plain { numbers.workers ≡ 0 }
     requires messages { numbers.direct ≡ false }
     ensures from { (w : Watched) → IsSolvedFromIn w numbers (R.remaining reader.old) (Q.remaining second.old) result }
-    ensures unread { IfSome (R.remaining reader.old) (λ file. IsErr (reading MOST_ARCS numbers.objects file)
+    ensures unread { IfSome (R.remaining reader.old) (λ file. IsErr (file_reading numbers.objects file)
         → second.new ≡ second.old) }
 {
     let started = started_of(alloc, reader, second, numbers.objects, false)?;
@@ -79,7 +78,7 @@ pub(crate) fn answer_plainly<R: Read, Q: Read>(
     requires plain { numbers.workers ≡ 0 }
     requires messages { numbers.direct ≡ false }
     ensures solving { (w : Watched) → IsSolvingIn w numbers (R.remaining reader.old) (Q.remaining second.old) result }
-    ensures unread { IfSome (R.remaining reader.old) (λ file. IsErr (reading MOST_ARCS numbers.objects file)
+    ensures unread { IfSome (R.remaining reader.old) (λ file. IsErr (file_reading numbers.objects file)
         → second.new ≡ second.old) }
     ensures alone { numbers.from ≡ false → second.new ≡ second.old }
 {
@@ -136,7 +135,7 @@ fn answer_by_threads_from<H: Threads + Wait + Sync, R: Read, Q: Read, G: Gate + 
     requires some { 1 ≤ numbers.workers }
     requires range { IsInRange (solve_by numbers) }
     ensures from { (w : Watched) → IsSolvedFromIn w numbers (R.remaining reader.old) (Q.remaining second.old) result }
-    ensures unread { IfSome (R.remaining reader.old) (λ file. IsErr (reading MOST_ARCS numbers.objects file)
+    ensures unread { IfSome (R.remaining reader.old) (λ file. IsErr (file_reading numbers.objects file)
         → second.new ≡ second.old) }
 {
     let started = started_of(alloc, reader, second, numbers.objects, false)?;
@@ -159,7 +158,7 @@ pub(crate) fn answer_in_threads<H: Threads + Wait + Sync, R: Read, Q: Read, G: G
     requires some { 1 ≤ numbers.workers }
     requires range { IsInRange (solve_by numbers) }
     ensures solving { (w : Watched) → IsSolvingIn w numbers (R.remaining reader.old) (Q.remaining second.old) result }
-    ensures unread { IfSome (R.remaining reader.old) (λ file. IsErr (reading MOST_ARCS numbers.objects file)
+    ensures unread { IfSome (R.remaining reader.old) (λ file. IsErr (file_reading numbers.objects file)
         → second.new ≡ second.old) }
     ensures alone { numbers.from ≡ false → second.new ≡ second.old }
 {

@@ -5,8 +5,8 @@ ghost use Rattle.auc_claim.specs.declared.start_error.StartError.{StartError};
 ghost use Rattle.auc_claim.specs.Start.{AreStart, IsStartPrice};
 ghost use Rattle.auc_graph.specs.Memory.{AnswersUnless};
 ghost use Rattle.auc_graph.specs.Price.{IsPrice};
-ghost use Rattle.auc_graph.specs.Reading.{reading};
 ghost use Rattle.auc_direct.specs.Starts.{AreStartPrices};
+ghost use Rattle.auc_run.specs.Problems.{file_reading};
 ghost use Rattle.auc_run.specs.Starts.{IsStartIn, direct_start_of, each_price, start_for};
 
 use crate::input::read_all;
@@ -14,7 +14,7 @@ use crate::problem::problem_of;
 use crate::refusal::Refusal;
 use auc_cert::read_cert;
 use auc_claim::{Cert, CertParts, StartError, high_price, start_prices};
-use auc_graph::{ArcList, MOST_ARCS, MOST_READS};
+use auc_graph::{ArcList, MOST_READS};
 use std::alloc::Global;
 use std::io::Read;
 
@@ -88,7 +88,7 @@ pub(crate) fn started_of<R: Read, Q: Read>(
     ensures started { IsStartIn direct objects (R.remaining reader.old) (Q.remaining second.old) result }
     ensures start { direct ≡ false → IfOk result (λ s. AreStart s.problem s.prices.items) }
     ensures each { IfOk result (λ s. AreStartPrices s.problem s.prices.items) }
-    ensures unread { IfSome (R.remaining reader.old) (λ file. IsErr (reading MOST_ARCS objects file)
+    ensures unread { IfSome (R.remaining reader.old) (λ file. IsErr (file_reading objects file)
         → second.new ≡ second.old) }
 {
     let problem = problem_of(alloc, reader, objects)?;

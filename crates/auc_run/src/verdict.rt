@@ -1,8 +1,7 @@
 //! Whether the claim of a certificate holds of a problem.
 
 ghost use Rattle.std.specs.Prelude.{◌≡◌, ◌≤◌, IfSome, IsErr};
-ghost use Rattle.auc_graph.specs.Reading.{reading};
-ghost use Rattle.auc_claim.specs.Spelled.{IsSpelled};
+ghost use Rattle.auc_run.specs.Problems.{file_reading};
 ghost use Rattle.auc_run.specs.Verdicts.{Judges, IsVerdict, said_by};
 
 use crate::input::read_all;
@@ -11,14 +10,13 @@ use crate::refusal::Refusal;
 use crate::valid::Valid;
 use auc_cert::read_cert;
 use auc_claim::{Cert, CertParts, check};
-use auc_graph::{ArcList, MOST_ARCS, MOST_READS};
+use auc_graph::{ArcList, MOST_READS};
 use std::alloc::Global;
 use std::io::Read;
 
 /// What a certificate says, if its claim holds.
 fn said_by(cert: &Cert) -> Valid
-    ensures is { result ≡ said_by cert.now }
-    ensures spelled { IsSpelled cert.now }
+    ensures { result ≡ said_by cert.now }
 {
     match cert.parts() {
         CertParts::Optimal { cost, .. } => Valid::Optimal { cost: *cost },
@@ -35,8 +33,7 @@ fn said_by(cert: &Cert) -> Valid
 
 /// What a certificate says, where its claim holds of the problem.
 fn judge(alloc: Global, problem: &ArcList, cert: &Cert) -> Result<Valid, Refusal>
-    ensures judges { Judges problem.now cert.now result }
-    ensures spelled { IsSpelled cert.now }
+    ensures { Judges problem.now cert.now result }
 {
     let valid = said_by(cert);
     check(alloc, problem, cert)?;
@@ -53,7 +50,7 @@ pub(crate) fn verdict_of<R: Read, Q: Read>(
 ) -> Result<Valid, Refusal>
     requires { objects ≤ 20000 }
     ensures verdict { IsVerdict objects (R.remaining reader.old) (Q.remaining second.old) result }
-    ensures unread { IfSome (R.remaining reader.old) (λ file. IsErr (reading MOST_ARCS objects file)
+    ensures unread { IfSome (R.remaining reader.old) (λ file. IsErr (file_reading objects file)
         → second.new ≡ second.old) }
 {
     let problem = problem_of(alloc, reader, objects)?;

@@ -16,5 +16,5 @@ mod paths;
 mod proposal;
 mod table;
 
-pub use proposal::{HIGHEST_TAKEN, Proposal, propose};
+pub use proposal::{Proposal, propose};
 pub use table::Table;

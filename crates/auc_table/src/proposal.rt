@@ -6,10 +6,6 @@ use crate::paths::Search;
 use crate::table::Table;
 use std::alloc::{AllocError, Global};
 
-/// The greatest price of a proposal that is taken, in costs of the table: scaled by persons + 1 it is below 2^61. Those
-/// of a least assignment need not be above 10,000 times the spread of the costs.
-pub const HIGHEST_TAKEN: i64 = 200_000_000_000_000;
-
 /// An assignment, and prices that should show that none costs less.
 #[derive(Drop)]
 pub struct Proposal {

@@ -4,7 +4,7 @@ use Rattle.std.specs.Prelude.{All, map}
 use Rattle.auc_claim.specs.declared.cert.CertParts.TheVariants.{Optimal}
 use Rattle.auc_claim.specs.Claim.{pick_of}
 use Rattle.auc_claim.proofs.ClaimLaws.{faultless_is_allowed}
-use Rattle.auc_claim.proofs.Converse.{assignment_spelled, slack_right_faultless}
+use Rattle.auc_claim.proofs.Converse.{assignment_in_range, slack_right_faultless}
 use Rattle.auc_graph.specs.declared.arc.Arc.{Arc}
 use Rattle.auc_graph.specs.Assignment.{IsAssignment, object_of, total_cost}
 use Rattle.auc_graph.specs.Dual.{IsNoPriceLeft, IsSlackRight, scale_of}
@@ -55,9 +55,9 @@ module _ (p : Problem) (t : Table) (shards : ℕ) (v : World) (prices : List ℤ
 
   certified : (IsSquare p ⊎ ((j : ℕ) → v.holder j ≡ None → v.price j ≡ pos 0)) → (choice : List Arc) → IsAssignment p choice → All (IsHeldArc p v) choice → IsCertified p (Optimal (total_cost choice) (map pick_of choice) prices)
   certified priced choice given held =
-      let spelled = assignment_spelled p choice prices is given many range in
+      let in_range = assignment_in_range p choice prices is given many range in
       let faultless = slack_right_faultless p choice given prices many (total_cost choice) refl (slack choice given held) (no_price_left priced choice given held) in
-      record { spelled = spelled; faultless = faultless; allowed = faultless_is_allowed p (Optimal (total_cost choice) (map pick_of choice) prices) is spelled faultless }
+      record { in_range = in_range; faultless = faultless; allowed = faultless_is_allowed p (Optimal (total_cost choice) (map pick_of choice) prices) is in_range faultless }
 
 pub counted_are_certified : (p : Problem) (t : Table) (shards : ℕ) (v : World) (prices : List ℤ) → IsProblem p → IsTable t → IsTableOf p t → (IsSquare p ⊎ ((j : ℕ) → v.holder j ≡ None → v.price j ≡ pos 0)) → Reached (phase_of t shards (pos 1)) v → v.count ≡ length t.rows → ArePricesOf v prices → length prices ≡ p.objects → All IsPrice prices
     → (choice : List Arc) × IsAssignment p choice × All (IsHeldArc p v) choice × IsCertified p (Optimal (total_cost choice) (map pick_of choice) prices)

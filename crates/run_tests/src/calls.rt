@@ -5,7 +5,7 @@ ghost use Rattle.std.specs.Prelude.{◌≡◌};
 use crate::fakes::{Broken, Slow};
 use crate::same::assert_same;
 use auc_graph::{
-    Arc, Number, ReadError, ReadLimits, Token, assigned_persons_have_arcs,
+    Arc, Number, ReadError, ReadLimits, TEXT_PERSONS, Token, assigned_persons_have_arcs,
     assignments_leave_no_price, bounds_fit, limits_are, number_of, prices_are_few,
     prices_bound_costs, read_arcs, slack_right_costs_least, token_at, wanted_objects_are_read,
 };
@@ -43,11 +43,13 @@ fn problems(rt: HostRuntime) -> Result<(), Fail> {
 
 /// Limits for a problem with as many objects as persons.
 pub fn limits_of(arcs: u16, reads: u16) -> ReadLimits
+    ensures persons { result.persons ≡ TEXT_PERSONS }
     ensures arcs { result.arcs ≡ arcs }
     ensures reads { result.reads ≡ reads }
     ensures objects { result.objects ≡ 0 }
 {
     ReadLimits {
+        persons: TEXT_PERSONS,
         arcs: arcs as u32,
         reads: reads as u32,
         objects: 0,

@@ -7,7 +7,7 @@ use crate::said::TWO;
 use crate::same::assert_same;
 use auc_cert::{CertTextError, read_cert};
 use auc_claim::{Cert, CertParts, CertRefused, Pick, Picks, Prices, Reason, check};
-use auc_graph::{ArcList, Indices, ReadError, ReadLimits, read_arcs};
+use auc_graph::{ArcList, Indices, MOST_PERSONS, ReadError, ReadLimits, TEXT_PERSONS, read_arcs};
 use std::test::*;
 
 /// One person, who has arcs to two objects.
@@ -27,11 +27,30 @@ fn read(rt: &HostRuntime, text: &str, objects: u16) -> Result<ArcList, ReadError
     requires { objects ≤ 20000 }
 {
     let limits = ReadLimits {
+        persons: TEXT_PERSONS,
         arcs: 100,
         reads: 0,
         objects: objects as u32,
     };
     read_arcs(rt.alloc(), text.as_bytes(), limits)
+}
+
+/// The limit of persons is the caller's.
+#[test]
+fn wide(rt: HostRuntime) -> Result<(), Fail> {
+    let limits = ReadLimits {
+        persons: MOST_PERSONS,
+        ..ReadLimits::usual()
+    };
+    let problem = read_arcs(rt.alloc(), b"4194304\n4194304 4194304 5\n", limits)?;
+    assert_same(
+        &rt,
+        (problem.persons(), problem.objects()),
+        (4_194_304, 4_194_304),
+    );
+    let more = read_arcs(rt.alloc(), b"4194305\n", limits);
+    assert_same(&rt, more.err(), Some(ReadError::CountRange));
+    Ok(())
 }
 
 #[test]
@@ -188,7 +207,7 @@ fn texts_of_brackets(rt: HostRuntime) -> Result<(), Fail> {
     Ok(())
 }
 
-/// With as many prices as picks no text names an object above 10,000.
+/// With as many prices as picks no text names an object above 10,000; a claim may.
 #[test]
 fn no_text(rt: HostRuntime) -> Result<(), Fail> {
     let alloc = rt.alloc();
@@ -203,6 +222,9 @@ fn no_text(rt: HostRuntime) -> Result<(), Fail> {
         choice: Picks::new(choice),
         prices: Prices::new(vec![in alloc; 0]?),
     };
-    assert!(rt; Cert::make(parts).is_err());
+    let Err(parts) = Cert::make(parts) else {
+        return Err(Fail::new("a text names the object"));
+    };
+    assert!(rt; Cert::make_wide(parts).is_ok());
     Ok(())
 }

@@ -4,7 +4,7 @@ ghost use Rattle.std.specs.Prelude.{◌≤◌};
 
 use crate::answers::answered_of;
 use crate::problems::TWO;
-use auc_graph::{ReadLimits, Rows, read_arcs};
+use auc_graph::{ReadLimits, Rows, TEXT_PERSONS, read_arcs};
 use auc_world::{Limits, first_eps};
 use std::test::*;
 
@@ -19,6 +19,7 @@ fn answers(
     requires { objects ≤ 20000 }
 {
     let read = ReadLimits {
+        persons: TEXT_PERSONS,
         arcs: 100,
         reads: 0,
         objects: objects as u32,

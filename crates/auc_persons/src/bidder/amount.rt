@@ -1,6 +1,7 @@
 //! The amount of a bid.
 
 ghost use Rattle.std.specs.Prelude.{◌≡◌, ◌*◌, ◌^◌, pos, ◌+ℤ◌, ◌-ℤ◌, ◌*ℤ◌, ◌≤ℤ◌};
+ghost use Rattle.auc_graph.specs.declared.limits.TheConstants.{MOST_SCALE};
 ghost use Rattle.auc_graph.specs.Bid.{IsBid};
 ghost use Rattle.auc_graph.specs.Price.{IsPrice};
 ghost use Rattle.auc_letters.specs.Price.{IsEps};
@@ -27,7 +28,7 @@ fn next_amount(price: i64, second: i64, value: i64, eps: i64) -> i64
 fn only_amount(price: i64, scaled_spread: i64, eps: i64) -> i64
     requires price { IsPrice price }
     requires spread_low { pos 0 ≤ℤ scaled_spread }
-    requires spread_high { scaled_spread ≤ℤ pos (2 ^ 45) }
+    requires spread_high { scaled_spread ≤ℤ pos (2 ^ 53) }
     requires eps { IsEps eps }
     ensures { result ≡ (price +ℤ scaled_spread) +ℤ eps }
 {
@@ -38,12 +39,12 @@ fn only_amount(price: i64, scaled_spread: i64, eps: i64) -> i64
 #[inline]
 pub(crate) fn scaled(scale: i64, spread: i64) -> i64
     requires scale_low { pos 1 ≤ℤ scale }
-    requires scale_high { scale ≤ℤ pos 10001 }
+    requires scale_high { scale ≤ℤ MOST_SCALE }
     requires spread_low { pos 0 ≤ℤ spread }
     requires spread_high { spread ≤ℤ pos (2 * 10 ^ 9) }
     ensures is { result ≡ scale *ℤ spread }
     ensures low { pos 0 ≤ℤ result }
-    ensures high { result ≤ℤ pos (2 ^ 45) }
+    ensures high { result ≤ℤ pos (2 ^ 53) }
 {
     scale * spread
 }

@@ -62,7 +62,7 @@ fn fill_by_blocks(
     requires arcs { blocked.arcs ≡ length (arcs_of own) }
     requires numbered { AreNumbered bounds.old blocked }
     requires right { AreRight _made.now.value own.rows.now own.copies.now bounds.old }
-    requires low { neg_ℤ (pos (2 ^ 44)) <ℤ bound }
+    requires low { neg_ℤ (pos (2 ^ 52)) <ℤ bound }
     requires high { bound ≤ℤ pos (2 ^ 62) }
     ensures keeps { Keeps (value_to own.entry) (arcs_of own.entry) list.new.arcs list.new.bound }
     ensures owner { list.new.person ≡ list.old.person }

@@ -1,6 +1,7 @@
 //! The methods for the rows of a shard's persons, and copies in rising order of the short rows that aren't.
 
 ghost use Rattle.std.specs.Prelude.{◌≡◌, ◌<◌, ◌≤◌, ◌+◌, List, ℤ, length, All, AllPairs, IfOk, IfSome};
+ghost use Rattle.auc_graph.specs.declared.limits.TheConstants.{MOST_PERSONS};
 ghost use Rattle.auc_persons.specs.Candidates.{Kept};
 ghost use Rattle.auc_persons.specs.Priced.{KeptAt, IsScanOf};
 ghost use Rattle.auc_persons.specs.Sorted.{DecidesAt, Grows, IsMethod};
@@ -90,7 +91,7 @@ fn method_of(
 
 /// The number of lists with one more row, of this method.
 fn count_with(lists: u32, method: Method) -> u32
-    requires { lists < 10000 }
+    requires { lists < MOST_PERSONS }
     ensures { result ≤ lists + 1 }
 {
     match method {

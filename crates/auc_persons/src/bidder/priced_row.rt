@@ -1,6 +1,7 @@
 //! A row of arcs, with the prices at which it is scanned.
 
 ghost use Rattle.std.specs.Prelude.{pos, ◌≤ℤ◌, All, length};
+ghost use Rattle.auc_graph.specs.declared.limits.TheConstants.{MOST_SCALE};
 ghost use Rattle.auc_graph.specs.Table.{IsRow};
 ghost use Rattle.auc_graph.specs.Price.{IsPrice};
 
@@ -17,7 +18,7 @@ pub(crate) struct PricedRow<'a> {
     pub arcs: &'a [RowArc],
     pub copies: &'a [i64],
     ghost scale_low: { pos 1 ≤ℤ scale },
-    ghost scale_high: { scale ≤ℤ pos 10001 },
+    ghost scale_high: { scale ≤ℤ MOST_SCALE },
     ghost is_row: { IsRow (length copies.now) arcs.now },
     ghost are_prices: { All IsPrice copies.now },
 }

@@ -1,6 +1,7 @@
 //! The result of a pass over a row, and the values of arcs.
 
 ghost use Rattle.std.specs.Prelude.{◌≡◌, ◌≤◌, ◌+◌, ◌^◌, pos, neg_ℤ, ◌+ℤ◌, ◌*ℤ◌, ◌≤ℤ◌};
+ghost use Rattle.auc_graph.specs.declared.limits.TheConstants.{MOST_SCALE};
 ghost use Rattle.auc_graph.specs.Price.{IsPrice};
 
 use auc_graph::{MOST_PERSONS, RowArc};
@@ -19,7 +20,7 @@ pub(crate) fn scale_of(persons: u32) -> i64
     requires { persons ≤ MOST_PERSONS }
     ensures is { result ≡ pos (persons + 1) }
     ensures low { pos 1 ≤ℤ result }
-    ensures high { result ≤ℤ pos 10001 }
+    ensures high { result ≤ℤ MOST_SCALE }
 {
     persons as i64 + 1
 }
@@ -28,13 +29,13 @@ pub(crate) fn scale_of(persons: u32) -> i64
 #[inline]
 pub(crate) fn value_of(scale: i64, cost: i32, price: i64) -> i64
     requires scale_low { pos 1 ≤ℤ scale }
-    requires scale_high { scale ≤ℤ pos 10001 }
+    requires scale_high { scale ≤ℤ MOST_SCALE }
     requires cost_low { neg_ℤ (pos (10 ^ 9)) ≤ℤ cost }
     requires cost_high { cost ≤ℤ pos (10 ^ 9) }
     requires price { IsPrice price }
     ensures is { result ≡ (scale *ℤ cost) +ℤ price }
-    ensures low { neg_ℤ (pos (2 ^ 44)) ≤ℤ result }
-    ensures high { result ≤ℤ pos (2 ^ 61 + 2 ^ 44) }
+    ensures low { neg_ℤ (pos (2 ^ 52)) ≤ℤ result }
+    ensures high { result ≤ℤ pos (2 ^ 61 + 2 ^ 52) }
 {
     scale * i64::from(cost) + price
 }

@@ -43,7 +43,7 @@ impl Search {
     /// The search with this result.
     #[inline]
     fn by(scan: Scan) -> Search
-        requires low { neg_ℤ (pos (2 ^ 44)) ≤ℤ scan.second }
+        requires low { neg_ℤ (pos (2 ^ 52)) ≤ℤ scan.second }
         ensures scan { result.scan ≡ scan }
         ensures limit { IsLimit result.scan result.limit }
     {
@@ -61,7 +61,7 @@ impl Search {
     pub(crate) fn with(self, arc: RowArc, value: i64) -> Search
         requires value { IsValue value }
         requires best { IsValue self.scan.value }
-        requires low { neg_ℤ (pos (2 ^ 44)) ≤ℤ self.scan.second }
+        requires low { neg_ℤ (pos (2 ^ 52)) ≤ℤ self.scan.second }
         requires limit { IsLimit self.scan self.limit }
         ensures taken { Taken self.scan arc value result.scan }
         ensures limit { IsLimit result.scan result.limit }

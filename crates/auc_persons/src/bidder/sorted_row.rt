@@ -1,6 +1,7 @@
 //! Arcs in rising order of objects, with the prices at which they are scanned.
 
 ghost use Rattle.std.specs.Prelude.{◌-◌, ◌^◌, pos, ◌≤ℤ◌, All, length};
+ghost use Rattle.auc_graph.specs.declared.limits.TheConstants.{MOST_SCALE};
 ghost use Rattle.auc_graph.specs.Table.{IsRowArc};
 ghost use Rattle.auc_graph.specs.Price.{IsPrice};
 ghost use Rattle.auc_persons.specs.Rising.{IsRisingRow};
@@ -18,7 +19,7 @@ pub(crate) struct SortedRow<'a> {
     pub arcs: &'a [RowArc],
     pub copies: &'a [i64],
     ghost scale_low: { pos 1 ≤ℤ scale },
-    ghost scale_high: { scale ≤ℤ pos 10001 },
+    ghost scale_high: { scale ≤ℤ MOST_SCALE },
     ghost within: { All (IsRowArc (length copies.now)) arcs.now },
     ghost rising: { IsRisingRow arcs.now },
     ghost are_prices: { All IsPrice copies.now },

@@ -20,11 +20,11 @@ bracket_parts-requires-clause-assignment c =
     let made = subst (λ (holders : List (Option Held)). IsChoiceOf c.args.problem.now holders (chosen 0 c.in-Some.picks.items)) c.as_slice.ensures.value (rw c.in-Some.is at c.in_ok-picks.ensures.some) in
     subst (IsAssignment c.args.problem.now) (one_choice c.args.problem.now c.args.gathered.holders.items known.0 (chosen 0 c.in-Some.picks.items) known.1 made) known.2
 
-pub unreachable-requires-in_default-make : goal.unreachable-requires-in_default-make
-unreachable-requires-in_default-make c =
+pub unreachable-requires-in_default-make_wide : goal.unreachable-requires-in_default-make_wide
+unreachable-requires-in_default-make_wide c =
     let by = rw c.in-Some-2.is at c.in_ok-parts.ensures.some in
     let sound = certified_bracket c.args.problem.now c.args.reason c.args.gathered.prices.items c.picks_of_holders.ensures.problem c.requires.prices c.requires.within c.requires.fits c.in-Some-2.parts by in
-    false≢true (c.in_default-make.ensures.ok.1 sound.spelled)
+    false≢true (c.in_default-make_wide.ensures.ok.1 sound.in_range)
 
 pub returns : goal.returns
 returns c =

@@ -4,12 +4,12 @@ use Rattle.auc_answers.specs.Answers.{IsCertified}
 use Rattle.auc_answers.proofs.FoundLaws.{passed_claim}
 use Rattle.auc_answers.proofs.finish.proved_optimal.Goals as goal
 
-pub unreachable-requires-in_default-make : goal.unreachable-requires-in_default-make
-unreachable-requires-in_default-make c =
+pub unreachable-requires-in_default-make_wide : goal.unreachable-requires-in_default-make_wide
+unreachable-requires-in_default-make_wide c =
     let made = rw c.in-Some.is at c.in_ok-parts.ensures.some in
     let known = c.requires.passes in
     let sound = passed_claim c.args.problem.now c.args.gathered.holders.items c.args.gathered.prices.items c.in-Some.parts made known.0 known.1 known.2 in
-    false≢true (c.in_default-make.ensures.ok.1 sound.spelled)
+    false≢true (c.in_default-make_wide.ensures.ok.1 sound.in_range)
 
 pub returns : goal.returns
 returns c =

@@ -23,7 +23,7 @@ returns c =
     let is : IsProblem (problem_from c.args.given.now.persons c.args.given.now.objects c.args.given.now.arcs.now) = subst (λ (arcs : List Arc). IsProblem (problem_from c.args.given.now.persons c.args.given.now.objects arcs)) c.in_ok-list.ensures.items (c.in_ok-problem.ensures.ok.0 refl) in
     let at : AreAt c.args.given.now.arcs.now c.args.choice.now (chosen 0 c.in-Ok.picks.items) = rw c.in-Ok.is at c.in_ok-picks.ensures.placed in
     let fits : FitsSigned w64 c.args.cost = c.ranges.cost in
-    let parts : c.in-Ok-make.cert ≡ CertParts.Optimal c.args.cost c.new.result c.new-2.result = simp to_z-of_z at c.in-Ok-make.ensures.same in
-    let spelled = simp to_z-of_z at (c.in-Ok-make.ensures.ok.0 refl) in
-    checks (problem_from c.args.given.now.persons c.args.given.now.objects c.args.given.now.arcs.now) c.in_ok-problem.problem c.args.choice.now c.args.prices.now c.new-2.result c.args.cost c.in-Ok.picks.items c.new.result c.in-Ok-make.cert c.checked_of.result
-    e is sizes at parts c.new.ensures (c.new-2.ensures ∙ c.in_ok-from_slice.ensures.items) spelled c.checked_of.ensures.told c.checked_of.ensures.allowed
+    let parts : c.in-Ok-make_wide.cert ≡ CertParts.Optimal c.args.cost c.new.result c.new-2.result = simp to_z-of_z at c.in-Ok-make_wide.ensures.same in
+    let in_range = simp to_z-of_z at (c.in-Ok-make_wide.ensures.ok.0 refl) in
+    checks (problem_from c.args.given.now.persons c.args.given.now.objects c.args.given.now.arcs.now) c.in_ok-problem.problem c.args.choice.now c.args.prices.now c.new-2.result c.args.cost c.in-Ok.picks.items c.new.result c.in-Ok-make_wide.cert c.checked_of.result
+    e is sizes at parts c.new.ensures (c.new-2.ensures ∙ c.in_ok-from_slice.ensures.items) in_range c.checked_of.ensures.told c.checked_of.ensures.allowed

@@ -1,6 +1,6 @@
 use Rattle.std.proofs.Common.{◌≡◌, ℕ, ◌+◌, sym, ◌∙◌, ap, subst, List, map, pos, w64, rules}
 use Rattle.std.specs.Int.{w128}
-use Rattle.std.specs.Prelude.{FitsSigned, ℤ}
+use Rattle.std.specs.Prelude.{All, FitsSigned, ℤ}
 use Rattle.std.proofs.lemmas.Int.{to_z-of_z}
 use Rattle.auc_graph.specs.Assignment.{total_cost}
 use Rattle.auc_graph.specs.Reading.{problem}
@@ -9,9 +9,18 @@ use Rattle.auc_claim.specs.Claim.{chosen}
 use Rattle.auc_dense.specs.Naming.{ByObjects}
 use Rattle.auc_call.specs.Shown.{IsLeastAt}
 use Rattle.auc_dense.specs.Table.{table_arcs}
-use Rattle.auc_dense.specs.Tried.{scaled}
+use Rattle.auc_dense.specs.Tried.{IsPlainPrice, scaled}
 use Rattle.auc_dense.proofs.ShownLaws.{shown_least}
 use Rattle.auc_dense.proofs.quick.solve_quickly.Goals as goal
+
+pub put_prices-requires-clause-plain : goal.put_prices-requires-clause-plain
+put_prices-requires-clause-plain c =
+    let gap_fits : FitsSigned w64 c.args.gap = c.ranges.gap in
+    let scale_fits : FitsSigned w64 c.scale_of.result = search rules in
+    let told = rw c.in-Some-2.is at c.in_ok-picks.ensures in
+    let show = simp to_z-of_z at told in
+    simp to_z-of_z (subst (λ (z : ℤ). All (IsPlainPrice z) c.as_slice-3.result.now) (sym c.scale_of.ensures)
+    (subst (λ (xs : List ℤ). All (IsPlainPrice (pos (c.args.table.now.persons + 1))) xs) (sym c.as_slice-3.ensures.value) show.fair))
 
 pub returns-clause-quick : goal.returns-clause-quick
 returns-clause-quick c =

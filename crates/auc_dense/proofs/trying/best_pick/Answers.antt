@@ -2,7 +2,7 @@ use Rattle.std.proofs.Common.{◌≢◌, ◌<◌, arith, rules, get_or, pos, len
 use Rattle.std.specs.Prelude.{FitsSigned, ◌+ℤ◌}
 use Rattle.std.proofs.lemmas.Int.{ints, to_z-of_z}
 use Rattle.std.proofs.lemmas.List.Elements.{All-get_or}
-use Rattle.auc_dense.specs.Tried.{IsPlainPrice}
+use Rattle.auc_graph.specs.Price.{IsPrice}
 use Rattle.auc_dense.proofs.trying.best_pick.Goals as goal
 
 pub returns : goal.returns
@@ -10,7 +10,7 @@ returns c =
     let gap_fits : FitsSigned w64 c.args.gap = c.ranges.gap in
     let lt : c.args.object < length c.args.row.now = omega (arith, c.if-object-row.false) in
     let cost_fits : FitsSigned w64 (get_or c.args.row.now c.args.object (pos 0)) = search rules in
-    let price = All-get_or IsPlainPrice c.args.prices.now c.args.object (pos 0) (let len = c.requires.len in omega (arith, lt, len)) c.requires.prices in
+    let price = All-get_or IsPrice c.args.prices.now c.args.object (pos 0) (let len = c.requires.len in omega (arith, lt, len)) c.requires.prices in
     let price_fits : FitsSigned w64 (get_or c.args.prices.now c.args.object (pos 0)) = let low = price.low in let high = price.high in omega (arith, ints, low, high) in
     let low = simp to_z-of_z at c.if-cost.false in
     let high = simp to_z-of_z at c.if-cost-gt-MOST_COST.false in

@@ -1,26 +1,24 @@
 use Rattle.std.proofs.Common.{◌<◌, ◌≤◌, arith, List, length, rules, w64, ◌∙◌}
-use Rattle.std.specs.Prelude.{FitsSigned, ℤ, ◌*ℤ◌}
+use Rattle.std.specs.Prelude.{FitsSigned, ℤ}
 use Rattle.std.proofs.lemmas.Int.{ints, to_z-of_z}
 use Rattle.std.proofs.lemmas.List.{length-set}
-use Rattle.auc_direct.proofs.AdoptLaws.{price_next, prices_all, scaled_price}
+use Rattle.auc_graph.specs.Price.{IsPrice}
+use Rattle.auc_direct.proofs.AdoptLaws.{price_next, prices_all}
 use Rattle.auc_direct.proofs.adopt.scaled_prices.Goals as goal
 
 pub loop-object-preserved : goal.loop-object-preserved
 loop-object-preserved c =
     let prices : List ℤ = c.loop-object.prices.items in
     let inv = c.loop-object.invariant in
-    let price : ℤ = c.index-price.result.now in
-    let scale : ℤ = c.scale-scale.result in
-    let f1 : FitsSigned w64 price = search rules in
-    let f2 : FitsSigned w64 scale = search rules in
+    let price : ℤ = c.in-Some.price in
+    let fits : FitsSigned w64 price = search rules in
     let low = simp to_z-of_z at c.if-price-lt0.false in
-    let high = simp to_z-of_z at c.if-price-gt-HIGHEST_TAKEN.false in
-    let is = scaled_price scale price c.scale-scale.ensures.low c.scale-scale.ensures.high (omega (arith, ints, low)) (omega (arith, ints, high)) in
-    let f3 : FitsSigned w64 (scale *ℤ price) = is.1 in
+    let high = simp to_z-of_z at c.if-price-gt-MOST_PRICE.false in
+    let is : IsPrice price = record { low = omega (arith, ints, low); high = omega (arith, ints, high) } in
     let room : c.loop-object.object < length prices = omega (arith, inv.many) in
     simp to_z-of_z (record {
-      many = length-set prices c.loop-object.object (scale *ℤ price) ∙ inv.many;
-      within = price_next prices c.loop-object.object (scale *ℤ price) room is.0 inv.within;
+      many = length-set prices c.loop-object.object price ∙ inv.many;
+      within = price_next prices c.loop-object.object price room is inv.within;
     })
 
 pub returns : goal.returns

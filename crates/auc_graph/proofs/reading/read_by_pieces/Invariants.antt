@@ -11,5 +11,5 @@ invariant-loop-done g l = record {
   long : length l.piece ≡ length l.fn.piece;
   sound : IsKnown l.limits.arcs l.known l.arcs.items;
   plain : IsPlain (take l.kept l.piece);
-  told : (text : List ℕ) × Consumes (g.R.Read.remaining l.fn.reader) (g.R.Read.remaining l.reader) text × (l._done ≤ length text) × ((more : List ℕ) → reading l.limits.arcs l.limits.objects (text ++ more) ≡ reading_from l.limits.arcs l.known l.arcs.items (take l.kept l.piece ++ more));
+  told : (text : List ℕ) × Consumes (g.R.Read.remaining l.fn.reader) (g.R.Read.remaining l.reader) text × (l._done ≤ length text) × ((more : List ℕ) → reading l.limits.persons l.limits.arcs l.limits.objects (text ++ more) ≡ reading_from l.limits.arcs l.known l.arcs.items (take l.kept l.piece ++ more));
 }

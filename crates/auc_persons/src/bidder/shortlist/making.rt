@@ -122,7 +122,7 @@ impl Shortlist {
     #[inline]
     pub(crate) fn bound_above(&self, second: i64) -> i64
         requires { IsValue second }
-        ensures low { neg_ℤ (pos (2 ^ 44)) <ℤ result }
+        ensures low { neg_ℤ (pos (2 ^ 52)) <ℤ result }
         ensures high { result ≤ℤ pos (2 ^ 62) }
     {
         second + self.delta

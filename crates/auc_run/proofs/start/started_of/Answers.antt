@@ -13,4 +13,4 @@ returns-in_err-bytes-clause-started g c =
 pub returns-in_err-prices-clause-started : goal.returns-in_err-prices-clause-started
 returns-in_err-prices-clause-started g c =
     prices_refused c.args.direct c.args.objects (g.R.Read.remaining c.args.reader.now) (g.Q.Read.remaining c.args.second.now) c.from_residual-in_err-prices.result c.in_ok-problem.problem c.in_ok-bytes.bytes.items c.in_ok-cert.cert c.in_err-prices.field-0.0 c.in_ok-problem.ensures.problem c.in_ok-bytes.ensures.whole
-    (record { spelled = c.parts.ensures.spelled; text = sym c.as_slice.ensures.value ∙ c.in_ok-cert.ensures.found }) c.in_err-prices.ensures.exact c.from_residual-in_err-prices.ensures.1
+    (record { spelled = c.in_ok-cert.ensures.found.0; text = sym c.as_slice.ensures.value ∙ c.in_ok-cert.ensures.found.1 }) c.in_err-prices.ensures.exact c.from_residual-in_err-prices.ensures.1

@@ -30,9 +30,9 @@ extern "C" {
 #define SIGDORF_VERSION_MAJOR 1
 #define SIGDORF_VERSION_MINOR 1
 
-#define SIGDORF_MOST_PERSONS 10000u
-#define SIGDORF_MOST_OBJECTS 20000u
-#define SIGDORF_MOST_ARCS 33554432u
+#define SIGDORF_MOST_PERSONS 4194304u
+#define SIGDORF_MOST_OBJECTS 4194304u
+#define SIGDORF_MOST_ARCS 268435456u
 #define SIGDORF_MOST_COST 1000000000
 /* The highest price that a start may have, on the scale of costs times persons + 1. */
 #define SIGDORF_HIGHEST_START (INT64_C(1) << 60)
@@ -69,9 +69,9 @@ enum sigdorf_status {
 
 /* The first fault of a list, looked for in this order; the last four arc by arc. Of a table the first three and the last. */
 enum sigdorf_list_fault {
-    SIGDORF_PERSONS = 1,   /* persons is not from 1 to 10,000 */
-    SIGDORF_OBJECTS,       /* objects is not 0, and below persons or above 20,000 */
-    SIGDORF_TOO_MANY_ARCS, /* 33,554,432 arcs are right, and one more comes after them */
+    SIGDORF_PERSONS = 1,   /* persons is not from 1 to 4,194,304 */
+    SIGDORF_OBJECTS,       /* objects is not 0, and below persons or above 4,194,304 */
+    SIGDORF_TOO_MANY_ARCS, /* 268,435,456 arcs are right, and one more comes after them */
     SIGDORF_PERSON,        /* the person of arc `place` is none of the problem */
     SIGDORF_OBJECT,        /* the object of arc `place` is none of the problem */
     SIGDORF_COST           /* the cost of arc `place`, or of the entry at this place, is beyond 10^9 in magnitude */
@@ -124,7 +124,7 @@ int32_t sigdorf_solve_by_messages(uint32_t persons, uint32_t objects, const sigd
 /* Solves as sigdorf_solve does, but the problem of a table, which has a row for each person and in it an entry for each object: the cost
  * of person i and object j is at costs[i * stride + j], and an entry that equals `none` is no arc, but a gap. What is between
  * the rows, or after the last one, is not read. `objects` 0 means as many as persons. The arcs are those of the entries that
- * are no gap, row by row; SIGDORF_TOO_MANY_ARCS means more than 33,554,432 such entries.
+ * are no gap, row by row; SIGDORF_TOO_MANY_ARCS means more than 268,435,456 such entries.
  *
  * All of sigdorf_solve's statuses and fields hold of this problem, but for three of them:
  * SIGDORF_OPTIMAL, SIGDORF_BRACKET: choice[i] is the OBJECT of person i. His entry for it is no gap, and costs what his arc costs. The

@@ -46,8 +46,8 @@ def solve(
     costs: int or float array of the same length, of at most 64 bits a number. Each counts exactly as it is: no
         assignment has a smaller sum, of all digits that these numbers have. Costs that are no whole numbers to 10^9
         take a few searches in place of one.
-    shape: numbers of rows and of columns; where it is left out, one more than the greatest of each. 10,000 on the
-        smaller side, 20,000 on the larger one, 33,554,432 entries.
+    shape: numbers of rows and of columns; where it is left out, one more than the greatest of each. There may be
+        4,194,304 of each, and 268,435,456 entries.
     maximize: whether the most is wanted.
     decimals: 0 to 9, for floats that mean decimal numbers: what counts is costs * 10^decimals, which must be whole
         numbers to 10^9 in magnitude, and a float must be the one nearest to such a number, of its own type.

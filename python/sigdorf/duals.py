@@ -49,7 +49,7 @@ def margins_of(solution, rows, columns, costs):
     Rows, columns and costs are those of all entries.
     """
     slack = abs(reduced_costs_of(solution, rows, columns, costs))
-    rows, columns = numpy.asarray(rows), numpy.asarray(columns)
+    rows, columns = (numpy.asarray(side).astype(numpy.int64, copy=False) for side in (rows, columns))
     is_other = ~numpy.isin(rows * solution.shape[1] + columns, solution.rows * solution.shape[1] + solution.columns)
     least = [numpy.full(count, math.inf, object) for count in solution.shape]
     for side, places in zip(least, (rows, columns)):

@@ -62,7 +62,8 @@ def solve(
         it, up to six times. Where its duals don't fit, as of another number of columns, it is dropped. Or prices from
         0 to 2^60, on the scale of whole costs times the smaller side + 1 (of decimals, 10^decimals times that); they
         may be wrong. :class:`Solver` does this for problems that follow one another.
-    bids: how many bids a phase may take, from 0 to 2^64 - 1.
+    bids: how many bids a phase may take, from 0 to 2^64 - 1. The usual 10^8 are 1,000 for each of the smaller side where
+        that is more.
     seconds: a limit of time, from 0. After it comes what was found by then: no fault, but a solution whose
         `is_optimal` is False. The search is made in slices, each from the beginning again with more bids than the one
         before. The first answer takes as long as it takes to read the entries and to find any assignment, whatever the

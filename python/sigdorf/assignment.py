@@ -6,7 +6,7 @@ import typing
 from numpy.typing import ArrayLike
 
 from .asked import bids_of
-from .library import USUAL_BIDS
+from .library import USUAL_BIDS, bids_for
 from .restricted import asked_of
 from .slices import Slices, progress_of, seconds_of, solve_in_slices
 from .solution import Solution
@@ -89,7 +89,8 @@ def solve(
     start, bids = asked.start_of(start), bids_of(bids)
     if seconds is None and progress is None:
         return asked.solution(start, bids)
-    slices = Slices(asked.costs.size, min(asked.sides), seconds_of(seconds), bids, began)
+    persons = min(asked.sides)
+    slices = Slices(asked.costs.size, persons, seconds_of(seconds), bids_for(bids, persons), began)
     return solve_in_slices(functools.partial(asked.solution, start), slices, asked.maximize, progress_of(progress))
 
 

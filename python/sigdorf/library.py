@@ -111,12 +111,17 @@ def _refuse(status, found):
     raise AssertionError(f"the library answered {status}")
 
 
+def bids_for(bids, persons):
+    """The bids of a phase, of so many that were asked for."""
+    return max(bids, BIDS_EACH * persons) if bids == USUAL_BIDS else bids
+
+
 def solve_arcs(persons, objects, arcs, start, bids):
     """The status, places of arcs or persons, prices, objects, and what was found.
 
     arcs: an array of ARC that nobody else writes; start: whole numbers, none or a price of each object, in units of costs times persons + 1.
     """
-    start, bids = _own(start, numpy.int64), max(bids, BIDS_EACH * persons) if bids == USUAL_BIDS else bids
+    start, bids = _own(start, numpy.int64), bids_for(bids, persons)
     choice, hall_objects = numpy.zeros(persons, numpy.uint32), numpy.zeros(persons, numpy.uint32)
     prices, found = numpy.zeros(objects, numpy.int64), Found()
     status = call_waiting(len(arcs) >= FEWEST, _solve, persons, objects, (arcs, start), bids, (choice, prices, hall_objects), found)

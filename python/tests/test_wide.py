@@ -7,7 +7,7 @@ from limited import Limited, numpy, scipy, sigdorf
 from test_fast import without
 
 if numpy:
-    from sigdorf import fast, library
+    from sigdorf import assignment, fast, library
 
 MOST = 4_194_304
 
@@ -197,6 +197,13 @@ class Bids(Limited):
         with without(), unittest.mock.patch.object(library, "_solve", side_effect=library._solve) as called:
             sigdorf.solve([0, 1], [0, 1], [1, 2])
         self.assertEqual(called.call_args[0][3], sigdorf.USUAL_BIDS)
+
+    def test_slices(self):
+        """The last of many slices has as many."""
+        with unittest.mock.patch.object(assignment, "solve_in_slices") as called:
+            sigdorf.solve([0], [0], [1], (self.ROWS, self.ROWS), seconds=1)
+            sigdorf.solve([0], [0], [1], seconds=1)
+        self.assertEqual([call[0][1]._most for call in called.call_args_list], [1_000 * self.ROWS, sigdorf.USUAL_BIDS])
 
     def test_extension(self):
         if not fast.is_there():

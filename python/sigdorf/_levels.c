@@ -9,8 +9,8 @@
 #define MOST_FINER 44
 #define MOST_BITS 60
 #define PLENTY (INT64_C(1) << 60)
-/* So often a round looks for prices at which its choices stay, before it has the library look for other choices; and so often a level is looked at for whether it
- * leaves but one assignment. */
+/* So often a round looks for prices at which its choices stay, before it has the library look for other choices; and so often a level is looked at for whether
+ * it leaves but one assignment. */
 #define MOST_PASSES 128
 /* So many entries of a row are looked at side by side; and many are near where one in so many was in the row before, or where a row is hardly longer. */
 #define LANES 4
@@ -245,8 +245,8 @@ static int solve_near(level *l, nearby *r, int64_t gap, uint64_t bids) {
     memset(r->choice, 0, persons * 4);
     memset(r->hall, 0, persons * 4);
     const int64_t start = 0;
-    int32_t status = solve_arcs((uint32_t)persons, (uint32_t)objects, r->arcs, r->near + persons, &start, 0, bids_for(bids, persons), r->choice, persons, r->prices, objects,
-                                r->hall, persons, &found);
+    int32_t status = solve_arcs((uint32_t)persons, (uint32_t)objects, r->arcs, r->near + persons, &start, 0, bids_for(bids, persons), r->choice, persons,
+                                r->prices, objects, r->hall, persons, &found);
     if (status != SIGDORF_OPTIMAL) return status;
     for (size_t i = 0; i < persons; i++) {
         if (r->choice[i] >= r->near) return 1;

@@ -96,8 +96,11 @@ class Holders:
 
 
 class Search:
-    """Whom lower objects of a person lead to, by whoever may take what another one has (`given`: who takes which object of theirs), and who leads to the person's
-    own object (`takes`: the object that they take). What is left over may be all objects, and to have it lead on is enough: so nobody goes through all of that."""
+    """Whom lower objects of a person lead to, by whoever may take what another one has, and who leads to the person's own object.
+
+    `given` has of each of the first who takes which object of theirs, `takes` of each of the others what they take. What is left over may be all objects;
+    to have it lead on is enough, so that nobody goes through it. `ways` counts what was looked at, ahead and back.
+    """
 
     def __init__(self, holders, person):
         self._holders, self.person, self.given, self.takes = holders, person, {}, {}
@@ -157,7 +160,7 @@ class Search:
 
 
 def groups_of(count, settled, others_of):
-    """Of each number below a count its group: the strongly connected components of those from `settled` on (Tarjan 1972), without recursion; -1 of those below."""
+    """Of each number below a count its group: of those from `settled` on the strongly connected components (Tarjan 1972), without recursion; else -1."""
     when, low, group, clock, open_ones = [0] * count, [0] * count, [-1] * count, 0, []
     for root in range(settled, count):
         if when[root]:

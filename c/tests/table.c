@@ -284,9 +284,9 @@ static void beside_lists(int count) {
     want("tables beside lists", bad, 0);
 }
 
-/* As many arcs as there may be, and one more. The start is of no size, so that nothing is solved. */
+/* As many arcs as there may be, and one more. What is written here lies in few pages, and each call is refused before it takes memory. */
 static void limits(void) {
-    enum { ROWS = 4096, COLUMNS = 8193 };
+    enum { ROWS = 16384, COLUMNS = SIGDORF_MOST_ARCS / ROWS + 1 };
     size_t count = (size_t)ROWS * COLUMNS;
     int64_t *costs = calloc(count, sizeof *costs), *prices = calloc(COLUMNS, sizeof *prices);
     uint32_t *choice = calloc(ROWS, sizeof *choice), *hall = calloc(ROWS, sizeof *hall);
@@ -298,16 +298,19 @@ static void limits(void) {
 #define SOLVE() sigdorf_solve_dense(ROWS, COLUMNS, costs, count, COLUMNS, 1, prices, 1, 1, choice, ROWS, prices, COLUMNS, hall, ROWS, &found)
     for (size_t k = 0; k < ROWS; k++)
         costs[2 * k] = 1;
-    want("as many arcs", SOLVE(), SIGDORF_START);
-    costs[0] = 0;
-    want("too many arcs", SOLVE(), SIGDORF_REFUSED);
-    want("their kind", found.kind, SIGDORF_TOO_MANY_ARCS);
-    want("their place", found.place, 0);
     costs[count - 1] = INT64_MAX;
-    want("a cost behind as many", (SOLVE(), found.kind), SIGDORF_TOO_MANY_ARCS);
+    want("the last cost of as many", (SOLVE(), found.kind), SIGDORF_COST);
+    want("its place", found.place, (int64_t)count - 1);
+    costs[0] = 0;
+    want("a cost behind as many", SOLVE(), SIGDORF_REFUSED);
+    want("its kind", found.kind, SIGDORF_TOO_MANY_ARCS);
+    want("its place", found.place, 0);
     costs[count - 2] = INT64_MAX;
     want("a cost among as many", (SOLVE(), found.kind), SIGDORF_COST);
     want("its place", found.place, (int64_t)count - 2);
+    costs[count - 1] = costs[count - 2] = 0;
+    want("too many arcs", SOLVE(), SIGDORF_REFUSED);
+    want("their kind", found.kind, SIGDORF_TOO_MANY_ARCS);
     free(costs), free(prices), free(choice), free(hall);
 }
 

@@ -37,8 +37,8 @@ static void sum_up_all(job *w, const double *costs, size_t count) {
         if (above > most) most = above;
     }
     if (least > most) least = most = 0;
-    /* Ten thousand such numbers are less than 2^14 times the greatest. */
-    if (most - least > 110) return;
+    /* All together are less than 2^126 of the least unit. */
+    if (most - least > 126 - bits_in(count)) return;
     w->sum = 0;
     for (size_t i = 0; i < count; i++) {
         int64_t digits = digits_of(costs[i], &exponent);
@@ -117,7 +117,9 @@ int combine(job *w) {
     if (w->is_small) return 0;
     int last = w->levels ? w->units[w->levels - 1] : w->unit, lifts = uses_gate(w);
     if (last < 0) last = 0;
-    int is_wide = last - w->unit > 60;
+    /* Prices of the library are to 2^61, and those of a round to 2^60 in a unit finer by 28 less the bits of the persons: times persons + 1, and in the last
+     * unit, all are below 2^122. */
+    int more = bits_in(persons) - 14, is_wide = last - w->unit > 60 - (more > 0 ? 2 * more : 0);
     if (is_wide && !w->are_whole) return 1;
     if (is_wide) return lifts;
     __int128 *combined = block_of(&w->shop->round, objects * sizeof *combined), least = 0;
@@ -131,7 +133,6 @@ int combine(job *w) {
     if (lifts && lift(w, combined, last)) return 1;
     int are_narrow = 1;
     for (size_t j = 0; j < objects; j++) {
-        /* Far below what 128 bits hold: prices of the library are to 2^61, and 60 places more. */
         if (w->are_whole) combined[j] *= (__int128)persons + 1;
         are_narrow &= combined[j] >= INT64_MIN && combined[j] <= INT64_MAX;
     }

@@ -174,10 +174,11 @@ static int32_t ask_library(job *w, sigdorf_found *found) {
     if (!start) return SIGDORF_MEMORY;
     write_start(w, start);
     memset(w->choice, 0, persons * 8);
-    int32_t status = w->arcs ? solve_arcs((uint32_t)persons, (uint32_t)objects, w->arcs, w->entries, start, w->q.starts, w->q.bids, w->choice, persons,
+    uint64_t bids = bids_for(w->q.bids, persons);
+    int32_t status = w->arcs ? solve_arcs((uint32_t)persons, (uint32_t)objects, w->arcs, w->entries, start, w->q.starts, bids, w->choice, persons,
                                           w->prices, objects, w->hall, persons, found)
                              : solve_dense((uint32_t)persons, (uint32_t)objects, w->costs, persons * objects, objects, NO_ENTRY, start, w->q.starts,
-                                           w->q.bids, w->choice, persons, w->prices, objects, w->hall, persons, found);
+                                           bids, w->choice, persons, w->prices, objects, w->hall, persons, found);
     if (start != &none) free(start);
     return status;
 }

@@ -96,6 +96,14 @@ typedef struct {
     int are_narrow;
 } job;
 
+/* How many bits a number above 0 has. */
+static inline int bits_in(size_t number) { return 64 - __builtin_clzll(number); }
+/* The usual bids of a phase are few for millions of persons, each of whom may bid in it: 1,000 each at least. library.py has the same. */
+static inline uint64_t bids_for(uint64_t bids, size_t persons) {
+    uint64_t each = 1000 * (uint64_t)persons;
+    return bids == SIGDORF_USUAL_BIDS && each > bids ? each : bids;
+}
+
 /* The block of a room, with so many bytes at least and what it has held lost; NULL where there is no memory. */
 void *block_of(room *r, size_t bytes);
 /* A part of a block, of so many values of a size. */

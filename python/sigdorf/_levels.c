@@ -5,10 +5,12 @@
 
 #include "_fast.h"
 
-/* By so many powers of two a round is finer at most, and what stands for every price that is beyond all costs of a round. */
+/* By so many powers of two a round is finer at most, and so many bits slacks have then; and what stands for every price that is beyond all costs of a round. */
 #define MOST_FINER 44
+#define MOST_BITS 60
 #define PLENTY (INT64_C(1) << 60)
-/* So often a round looks for prices at which its choices stay, before it has the library look for other choices. */
+/* So often a round looks for prices at which its choices stay, before it has the library look for other choices; and so often a level is looked at for whether
+ * it leaves but one assignment. */
 #define MOST_PASSES 128
 /* So many entries of a row are looked at side by side; and many are near where one in so many was in the row before, or where a row is hardly longer. */
 #define LANES 4
@@ -23,6 +25,15 @@ static power power_of(int exponent) { return (power){ldexp(1, exponent / 2), lde
 static double times(double value, power by) { return value * by.first * by.second; }
 
 static size_t count_of(const level *l) { return l->first[l->persons]; }
+
+/* Beyond what slack an arc is far. */
+static int64_t most_slack(const level *l) { return 4 * (int64_t)l->persons + 16; }
+
+/* By how many powers of two a round of a level may be finer. */
+static int most_finer(const level *l) {
+    int room = MOST_BITS - bits_in((size_t)most_slack(l));
+    return room < MOST_FINER ? room : MOST_FINER;
+}
 
 /* How many persons have an arc of slack 0 with a smaller tail than their choice. Where none has, the choices are least, and the prices show it. */
 static int64_t count_unsettled(const level *l) {
@@ -48,7 +59,7 @@ static int is_only(const level *l, uint32_t *left, uint8_t *is_gone) {
     size_t count = l->persons, before = 0;
     memset(is_gone, 0, l->objects);
     for (size_t i = 0; i < count; i++) left[i] = (uint32_t)i;
-    while (count != before) {
+    for (int pass = 0; count != before && pass < MOST_PASSES; pass++) {
         before = count;
         count = 0;
         for (size_t k = 0; k < before; k++) {
@@ -69,7 +80,7 @@ static int is_only(const level *l, uint32_t *left, uint8_t *is_gone) {
 
 /* Leaves out arcs that no later round brings near. */
 static void drop_far(level *l) {
-    int64_t most = 4 * (int64_t)l->persons + 16;
+    int64_t most = most_slack(l);
     size_t count = 0, e = 0;
     for (size_t i = 0; i < l->persons; i++) {
         size_t end = l->first[i + 1];
@@ -95,11 +106,11 @@ static int step_of(const level *l) {
         for (size_t e = l->first[i]; e < l->first[i + 1]; e++) least = fmin(least, (double)l->slack[e] + times(l->tail[e], units));
         gap += times(l->tail[l->pick[i]], units) - least;
     }
-    if (!(gap > 0)) return MOST_FINER;
-    int exponent;
+    int exponent, most = most_finer(l);
+    if (!(gap > 0)) return most;
     frexp(gap, &exponent);
     int by = 29 - exponent;
-    return by < 1 ? 1 : by > MOST_FINER ? MOST_FINER : by;
+    return by < 1 ? 1 : by > most ? most : by;
 }
 
 /* Slacks in a unit finer by so many powers of two: their sum at the choices, whether they leave tails, and by how many places all of them can be shifted
@@ -234,8 +245,8 @@ static int solve_near(level *l, nearby *r, int64_t gap, uint64_t bids) {
     memset(r->choice, 0, persons * 4);
     memset(r->hall, 0, persons * 4);
     const int64_t start = 0;
-    int32_t status = solve_arcs((uint32_t)persons, (uint32_t)objects, r->arcs, r->near + persons, &start, 0, bids, r->choice, persons, r->prices, objects,
-                                r->hall, persons, &found);
+    int32_t status = solve_arcs((uint32_t)persons, (uint32_t)objects, r->arcs, r->near + persons, &start, 0, bids_for(bids, persons), r->choice, persons,
+                                r->prices, objects, r->hall, persons, &found);
     if (status != SIGDORF_OPTIMAL) return status;
     for (size_t i = 0; i < persons; i++) {
         if (r->choice[i] >= r->near) return 1;
@@ -318,7 +329,7 @@ static void take_changes(level *l, const nearby *r) {
 
 /* Takes the next level by the choices that there are, in the finest unit: 1 where they aren't the least in it, or it isn't seen that they are. */
 static int finer_by_prices(level *l, nearby *r) {
-    step s = in_finer(l, MOST_FINER, r->finer);
+    step s = in_finer(l, most_finer(l), r->finer);
     if (!relax(l, r, s)) return 1;
     for (size_t j = 0; j < l->objects; j++) r->change[j] >>= s.spare;
     take_finer(l, s, r->finer);
@@ -342,7 +353,8 @@ static int widen(const job *w, level *l, size_t count, size_t more) {
     workshop *shop = w->shop;
     int has_slacks = w->arcs || w->has_tails;
     if (shop->arcs - count < more) {
-        size_t arcs = 4 * (shop->arcs + more);
+        size_t arcs = 4 * (shop->arcs + more), all = (w->arcs ? w->entries : w->q.count) + 1;
+        if (arcs > all) arcs = all;
         void *object = realloc(shop->object, arcs * 4);
         if (!object) return 1;
         shop->object = object, shop->arcs = arcs;
@@ -470,7 +482,7 @@ static int first_level(job *w, level *l) {
     w->are_whole = 1;
     l->persons = persons, l->objects = objects, l->unit = w->unit, l->is_settled = 1, l->first[0] = 0;
     for (size_t i = 0; i < persons; i++)
-        if (list_person(w, l, i, w->has_tails ? 4 * (int64_t)persons + 17 : 1)) return 1;
+        if (list_person(w, l, i, w->has_tails ? most_slack(l) + 1 : 1)) return 1;
     for (size_t j = 0; j < objects; j++) l->price[j] = objects == persons ? 0 : l->price[j] < PLENTY ? l->price[j] : PLENTY;
     return 0;
 }

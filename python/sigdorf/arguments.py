@@ -7,7 +7,7 @@ import numpy
 from .nullable import of_nullable
 
 # The limits of a problem: of its smaller side, of its larger one, and of its entries.
-MOST_PERSONS, MOST_OBJECTS, MOST_ENTRIES = 10_000, 20_000, 33_554_432
+MOST_PERSONS, MOST_OBJECTS, MOST_ENTRIES = 4_194_304, 4_194_304, 268_435_456
 MOST_BIDS = 2**64 - 1
 MOST_INDEX = 2**32 - 2
 INT64 = -(2**63), 2**63 - 1

@@ -6,7 +6,7 @@ import typing
 from numpy.typing import ArrayLike
 
 from .asked import bids_of
-from .library import USUAL_BIDS
+from .library import USUAL_BIDS, bids_for
 from .restricted import asked_of
 from .slices import Slices, progress_of, seconds_of, solve_in_slices
 from .solution import Solution
@@ -46,8 +46,8 @@ def solve(
     costs: int or float array of the same length, of at most 64 bits a number. Each counts exactly as it is: no
         assignment has a smaller sum, of all digits that these numbers have. Costs that are no whole numbers to 10^9
         take a few searches in place of one.
-    shape: numbers of rows and of columns; where it is left out, one more than the greatest of each. 10,000 on the
-        smaller side, 20,000 on the larger one, 33,554,432 entries.
+    shape: numbers of rows and of columns; where it is left out, one more than the greatest of each. There may be
+        4,194,304 of each, and 268,435,456 entries.
     maximize: whether the most is wanted.
     decimals: 0 to 9, for floats that mean decimal numbers: what counts is costs * 10^decimals, which must be whole
         numbers to 10^9 in magnitude, and a float must be the one nearest to such a number, of its own type.
@@ -62,7 +62,8 @@ def solve(
         it, up to six times. Where its duals don't fit, as of another number of columns, it is dropped. Or prices from
         0 to 2^60, on the scale of whole costs times the smaller side + 1 (of decimals, 10^decimals times that); they
         may be wrong. :class:`Solver` does this for problems that follow one another.
-    bids: how many bids a phase may take, from 0 to 2^64 - 1.
+    bids: how many bids a phase may take, from 0 to 2^64 - 1. The usual 10^8 are 1,000 for each of the smaller side where
+        that is more.
     seconds: a limit of time, from 0. After it comes what was found by then: no fault, but a solution whose
         `is_optimal` is False. The search is made in slices, each from the beginning again with more bids than the one
         before. The first answer takes as long as it takes to read the entries and to find any assignment, whatever the
@@ -88,7 +89,8 @@ def solve(
     start, bids = asked.start_of(start), bids_of(bids)
     if seconds is None and progress is None:
         return asked.solution(start, bids)
-    slices = Slices(asked.costs.size, min(asked.sides), seconds_of(seconds), bids, began)
+    persons = min(asked.sides)
+    slices = Slices(asked.costs.size, persons, seconds_of(seconds), bids_for(bids, persons), began)
     return solve_in_slices(functools.partial(asked.solution, start), slices, asked.maximize, progress_of(progress))
 
 

@@ -154,9 +154,9 @@ class Slacks:
     def _compare(self, places):
         costs = self._turned(places)
         unit = max(self._unit, unit_of(costs))
-        prices, worths = (side << unit - self._unit for side in (self._prices, self._worth))
-        slack = in_units(costs, unit) + prices[self._object[places]] - worths[self._person[places]]
-        self._refuse_better(places, slack < 0)
+        # Of the few that are near alone: all prices would take longer than they, once for each block.
+        worse = self._prices[self._object[places]] - self._worth[self._person[places]]
+        self._refuse_better(places, in_units(costs, unit) + (worse << unit - self._unit) < 0)
 
     def _refuse_better(self, places, better):
         if better.any():

@@ -4,8 +4,12 @@ import math
 
 import numpy
 
+from .amounts import in_units, unit_of
 from .arguments import MOST_ENTRIES, array_of, attempt, whole_numbers
 from .faults import Unsettled
+
+# So many entries are looked at at a time, to take little memory.
+BLOCK = 1 << 16
 
 
 def duals_of(solution):
@@ -31,16 +35,8 @@ def has_row_prices(solution):
 def reduced_costs_of(solution, rows, columns, costs):
     """The costs of these pairs less the duals of their rows and columns."""
     u, v = duals_of(solution)
-    rows, columns = (
-        whole_numbers(side, name, 0, count - 1)
-        for side, name, count in zip((rows, columns), ("rows", "columns"), solution.shape)
-    )
-    listed = array_of(costs, "costs", MOST_ENTRIES)
-    is_right = listed.dtype.kind in "biufO" and listed.shape == rows.shape == columns.shape
-    exact = attempt(_exactly, listed.tolist()) if is_right else None
-    if exact is None:
-        raise ValueError("costs must be finite numbers, as many as rows and columns")
-    return exact - u[rows] - v[columns]
+    rows, columns, costs = _looked_at(solution, rows, columns, costs)
+    return _exactly(costs.tolist()) - u[rows] - v[columns]
 
 
 def margins_of(solution, rows, columns, costs):
@@ -48,18 +44,44 @@ def margins_of(solution, rows, columns, costs):
 
     Rows, columns and costs are those of all entries.
     """
-    slack = abs(reduced_costs_of(solution, rows, columns, costs))
-    rows, columns = numpy.asarray(rows), numpy.asarray(columns)
+    duals = duals_of(solution)
+    rows, columns, costs = _looked_at(solution, rows, columns, costs)
     is_other = ~numpy.isin(rows * solution.shape[1] + columns, solution.rows * solution.shape[1] + solution.columns)
+    # In whole numbers of one part, since Fractions would take minutes for a million rows.
+    unit = unit_of(costs) if costs.dtype != object else 0
+    parts = math.lcm(1 << unit, *{dual.denominator for side in duals for dual in side})
+    duals = [_array([dual.numerator * (parts // dual.denominator) for dual in side]) for side in duals]
     least = [numpy.full(count, math.inf, object) for count in solution.shape]
-    for side, places in zip(least, (rows, columns)):
-        numpy.minimum.at(side, places[is_other], slack[is_other])
+    for start in range(0, len(costs), BLOCK):
+        some = start + numpy.flatnonzero(is_other[start : start + BLOCK])
+        exact = _exactly(costs[some]) * parts if costs.dtype == object else in_units(costs[some], unit) * (parts >> unit)
+        slack = abs(exact - duals[0][rows[some]] - duals[1][columns[some]])
+        for side, places in zip(least, (rows, columns)):
+            numpy.minimum.at(side, places[some], slack)
     # A price may not fall below 0, since what nobody takes has none.
     priced = 0 if has_row_prices(solution) else 1
-    least[priced] = numpy.minimum(least[priced], _array(solution.exact_prices()))
+    least[priced] = numpy.minimum(least[priced], duals[priced] if solution.maximize else -duals[priced])
     pairs = zip(least[0][solution.rows], least[1][solution.columns])
     # A Fraction that is too great for a float can't be added to infinity.
-    return _array([math.inf if math.inf in pair else sum(pair) for pair in pairs])
+    return _array([math.inf if math.inf in pair else fractions.Fraction(sum(pair), parts) for pair in pairs])
+
+
+def _looked_at(solution, rows, columns, costs):
+    """Rows and columns as int64, and costs as whole numbers, floats of 64 bits, or Python's own numbers."""
+    rows, columns = (
+        whole_numbers(side, name, 0, count - 1)
+        for side, name, count in zip((rows, columns), ("rows", "columns"), solution.shape)
+    )
+    listed = array_of(costs, "costs", MOST_ENTRIES)
+    is_right = listed.dtype.kind in "biufO" and listed.shape == rows.shape == columns.shape
+    if is_right and listed.dtype.kind == "f":
+        is_right = listed.dtype.itemsize <= 8 and bool(numpy.isfinite(listed).all())
+        listed = listed.astype(numpy.float64)
+    if is_right and listed.dtype == object:
+        is_right = attempt(_exactly, listed.tolist()) is not None
+    if not is_right:
+        raise ValueError("costs must be finite numbers, as many as rows and columns")
+    return rows, columns, listed
 
 
 def _exactly(numbers):

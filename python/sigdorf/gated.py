@@ -6,7 +6,7 @@ import numpy
 from numpy.typing import ArrayLike
 
 from . import fast
-from .arguments import MOST_OBJECTS, MOST_PERSONS, attempt, is_whole
+from .arguments import MOST_OBJECTS, attempt, is_whole
 from .asked import NO_ASSIGNMENT, Asked, bids_of
 from .costs import costs_of
 from .faults import Unsettled
@@ -64,9 +64,8 @@ def match(
     limit: what a row costs that stays free: a finite number, or a list with one of each row. Where costs are whole
         numbers beyond 2^53, it is whole.
     column_limit: what a column costs that stays free, where that isn't nothing: a number, or a list with one of each
-        column. Then a pair costs its row's and its column's limit together at most, and rows and columns number 10,000
-        at most together.
-    rows, columns, shape: those of :func:`solve`. Rows and columns number 20,000 at most together.
+        column. Then a pair costs its row's and its column's limit together at most.
+    rows, columns, shape: those of :func:`solve`. Rows and columns number 4,194,304 at most together.
     maximize: whether the most is wanted: then no pair of less than the limit is made.
     missing, bids: those of :func:`solve`.
 
@@ -150,8 +149,6 @@ def _by_own_limits(asked, limit, column_limit, bids):
         more = with_outlets(lists.rows, lists.columns, *in_one_type(lists.costs, limits), lists.sides[1])
     else:
         column_limits = limits_of(column_limit, lists.sides[1], "column_limit", "column")
-        if sum(lists.sides) > MOST_PERSONS:
-            raise ValueError(f"rows and columns must number {MOST_PERSONS:,} at most together with limits of columns")
         more = with_all_outlets(lists, *in_one_type(lists.costs, limits, column_limits))
     return _matched(asked, Asked.of_lists(more, asked.maximize).solution(None, bids), numpy.arange(len(lists.costs)))
 

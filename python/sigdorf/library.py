@@ -5,19 +5,21 @@ import pathlib
 
 import numpy
 
+from .arguments import MOST_ENTRIES, MOST_OBJECTS, MOST_PERSONS
 from .faults import Refused
 from .waiting import call_waiting
 
 ARC = numpy.dtype([("cost", "<i8"), ("person", "<u4"), ("object", "<u4")])
 OPTIMAL, SIZES, INFEASIBLE, BRACKET, REFUSED, MEMORY, START = 0, 2, 3, 4, 5, 6, 7
 INVALID = INFEASIBLE
-USUAL_BIDS = 100_000_000
+# The usual bids of a phase are few for millions of persons, each of whom may bid in it: BIDS_EACH at least. _fast.h has the same.
+USUAL_BIDS, BIDS_EACH = 100_000_000, 1_000
 # A call with fewer arcs ends so soon that a thread of its own isn't worth its time.
 FEWEST = 2_000
 LIST_FAULTS = {
-    1: "the smaller side of the problem must number 1 to 10,000",
-    2: "the larger side of the problem must number 20,000 at most",
-    3: "there are more than 33,554,432 entries",
+    1: f"the smaller side of the problem must number 1 to {MOST_PERSONS:,}",
+    2: f"the larger side of the problem must number {MOST_OBJECTS:,} at most",
+    3: f"there are more than {MOST_ENTRIES:,} entries",
     4: "entry {place} names a row or column that the shape doesn't have",
     5: "entry {place} names a row or column that the shape doesn't have",
     6: "the cost of entry {place} is beyond 10^9 in magnitude, scaled",
@@ -109,12 +111,17 @@ def _refuse(status, found):
     raise AssertionError(f"the library answered {status}")
 
 
+def bids_for(bids, persons):
+    """The bids of a phase, of so many that were asked for."""
+    return max(bids, BIDS_EACH * persons) if bids == USUAL_BIDS else bids
+
+
 def solve_arcs(persons, objects, arcs, start, bids):
     """The status, places of arcs or persons, prices, objects, and what was found.
 
     arcs: an array of ARC that nobody else writes; start: whole numbers, none or a price of each object, in units of costs times persons + 1.
     """
-    start = _own(start, numpy.int64)
+    start, bids = _own(start, numpy.int64), bids_for(bids, persons)
     choice, hall_objects = numpy.zeros(persons, numpy.uint32), numpy.zeros(persons, numpy.uint32)
     prices, found = numpy.zeros(objects, numpy.int64), Found()
     status = call_waiting(len(arcs) >= FEWEST, _solve, persons, objects, (arcs, start), bids, (choice, prices, hall_objects), found)

@@ -11,8 +11,8 @@ import numpy
 from .costs import MOST, common_twos
 from .near import Near
 
-# By so many powers of two a round is finer at most: slacks of 16 bits have 60 then.
-MOST_FINER = 44
+# By so many powers of two a round is finer at most, and so many bits slacks have then.
+MOST_FINER, MOST_BITS = 44, 60
 # What means every price that is beyond all costs of a round.
 PLENTY = 1 << 31
 
@@ -81,7 +81,8 @@ class Level:
         """By how many powers of two the next unit is finer: about as many as the sum of the choice's slacks allows."""
         tail = numpy.ldexp(self.tail, self.unit)
         gap = float((tail[self.pick] - numpy.minimum.reduceat(self.slack + tail, first)).sum())
-        return max(1, min(MOST_FINER, 29 - math.frexp(gap)[1])) if gap > 0 else MOST_FINER
+        most = min(MOST_FINER, MOST_BITS - most_slack(self.persons).bit_length())
+        return max(1, min(most, 29 - math.frexp(gap)[1])) if gap > 0 else most
 
 
 def most_slack(persons):

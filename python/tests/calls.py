@@ -200,7 +200,7 @@ def call_matrix(source, problem):
         matrix = source.choice([
             lambda: guises.odd(source, matrix.ravel()[:4]), lambda: matrix.astype(object), lambda: matrix.astype(complex), lambda: numpy.ma.masked_invalid(matrix), lambda: matrix[None],
             lambda: matrix.astype("U5"), lambda: numpy.where(matrix > 0, numpy.nan, matrix), lambda: -matrix, lambda: numpy.broadcast_to(numpy.int8(0), (10**8, 10**8)),
-            lambda: [numpy.ma.masked_array(row) for row in matrix], lambda: matrix + 0.25, lambda: numpy.resize(matrix, (2, 20_001)),
+            lambda: [numpy.ma.masked_array(row) for row in matrix], lambda: matrix + 0.25, lambda: numpy.broadcast_to(matrix.ravel()[0], (2, 4_194_305)),
         ])() if matrix.size else guises.odd(source, [1, 2])
         return f"linear_sum_assignment {outcome_of(sigdorf.linear_sum_assignment, matrix, source.choice([problem.maximize, *guises.ODD_NUMBERS]), bids=MOST_BIDS)[1]}"
     kinds = [kind for kind in ("f4", "f8", ">f8", "g") if (matrix.astype(kind) == matrix).all()]

@@ -89,7 +89,7 @@ def in_itself(numbers):
 
 
 def odd_shape(random, shape):
-    shapes = [None, 5, "22", {2, 3}, {2: 3}, shape[:1], (*shape, 1), (2.0, 2), (True, 2), (-1, 2), (2**32 - 1, 2**32 - 1), (0, 2**32 - 1), (2**64, 2), (10_001, 10_001), (2, 20_001), numpy.array(shape),
+    shapes = [None, 5, "22", {2, 3}, {2: 3}, shape[:1], (*shape, 1), (2.0, 2), (True, 2), (-1, 2), (2**32 - 1, 2**32 - 1), (0, 2**32 - 1), (2**64, 2), (4_194_305, 4_194_305), (2, 4_194_305), numpy.array(shape),
               numpy.array([shape, shape]), numpy.array(3), shape[::-1], (shape[0] - 1, shape[1]), (shape[0], shape[1] - 1), (0, shape[1]), (shape[0], 0), Broken(), (Broken(), 1), (numpy.ma.masked, 2),
               numpy.ma.masked_array(shape, [1, 0]), list(shape), (*map(numpy.uint16, shape),), (random.choice(ODD_NUMBERS), random.choice(ODD_NUMBERS))]
     return random.choice(shapes)

@@ -67,7 +67,7 @@ class Lists(Limited):
 
     def test_shapes(self):
         shapes = [5, "22", {2, 3}, {2: 2, 3: 3}, (), (2,), (2, 2, 2), (2.0, 2), (True, 2), (2, None), (-1, 2), (2**32, 2**32), (2**64, 2), [[2, 2], [2, 2]], numpy.zeros((2, 2), int), numpy.array(2)]
-        shapes += [(2**32 - 1, 2**32 - 1), (2, 2**32 - 1), (2**32 - 1, 2), (0, 2**32 - 1), (10_001, 10_001), (2, 20_001), Broken(), (Broken(), 2), (numpy.float64(2), 2), numpy.array([2.0, 2.0])]
+        shapes += [(2**32 - 1, 2**32 - 1), (2, 2**32 - 1), (2**32 - 1, 2), (0, 2**32 - 1), (4_194_305, 4_194_305), (2, 4_194_305), Broken(), (Broken(), 2), (numpy.float64(2), 2), numpy.array([2.0, 2.0])]
         for shape in shapes:
             with self.subTest(shape=shape if not isinstance(shape, Broken) else "broken"):
                 self.assert_refused(sigdorf.solve, *LISTS, shape)
@@ -139,7 +139,7 @@ class Guises(Limited):
         infinite = numpy.full((2, 2), numpy.inf)
         for value in [None, 5, "12", [1, 2], [[1, 2], [3]], numpy.zeros((2, 2, 2)), numpy.zeros((2, 2), complex), numpy.zeros((2, 2), object), numpy.zeros((2, 2), "M8[s]"), [["1", "2"], ["3", "4"]],
                       numpy.ma.masked_array([[1, 2], [1, 4]], [[0, 1], [0, 0]]), [numpy.ma.masked_array([1, 2], [0, 1]), [1, 4]], [[1, numpy.ma.masked], [1, 4]], [[decimal.Decimal(1)]], {1: 2},
-                      numpy.broadcast_to(numpy.int8(0), (10**9, 10**9)), numpy.broadcast_to(numpy.int8(0), (10_000, 20_000)), numpy.broadcast_to(numpy.float32(0), (3, 10**9)),
+                      numpy.broadcast_to(numpy.int8(0), (10**9, 10**9)), numpy.broadcast_to(numpy.int8(0), (16_384, 16_385)), numpy.broadcast_to(numpy.float32(0), (3, 10**9)),
                       [[1, numpy.nan], [1, 2]], [[1, -numpy.inf], [1, 2]], [[1, 2**64], [1, 2]], Broken(), numpy.zeros((2, 2), [("a", int)]), range(10**12)]:
             with self.subTest(kind=type(value)):
                 with self.assertRaises(ValueError) as caught:

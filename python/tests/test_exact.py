@@ -19,7 +19,7 @@ class Random(Limited):
             floats.greater(f"greater {number}")
 
     def test_where_there_is_no_room_for_one_more(self):
-        """The way that a problem of 20,000 objects takes, with a smaller limit."""
+        """The way that a problem of 4,194,304 objects takes, with a smaller limit."""
         with unittest.mock.patch.object(near, "_left_over", wraps=near._left_over) as left_over:
             for columns in range(3, 9):
                 with unittest.mock.patch.object(near, "MOST_OBJECTS", columns):

@@ -63,8 +63,8 @@ class Worked(Limited):
             ("not be below 0", ([0, 0, 1, -1], columns, costs)),
             ("nan of entry 3", (rows, columns, [1, 2, 3, numpy.nan])),
             ("shape doesn't have", (rows, columns, costs, (1, 2))),
-            ("larger side", (rows, columns, costs, (2, 20001))),
-            ("smaller side", (rows, columns, costs, (10001, 10001))),
+            ("larger side", (rows, columns, costs, (2, 4_194_305))),
+            ("smaller side", (rows, columns, costs, (4_194_305, 4_194_305))),
             ("one list of numbers", (rows, columns, ["a"] * 4)),
         ]:
             with self.subTest(fault), self.assertRaisesRegex(ValueError, fault):

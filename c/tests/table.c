@@ -295,6 +295,8 @@ static void limits(void) {
         printf("skipped: the limits, for want of memory\n");
         return;
     }
+    /* The entries of these would be numbered from 0 to 2^32: it is refused before any is read, so the lengths need not be true. */
+    want("too many entries", sigdorf_solve_dense(65536, 65536, costs, (size_t)1 << 32, 65536, 1, prices, 0, 1, choice, 65536, prices, 65536, hall, 65536, &found), SIGDORF_SIZES);
 #define SOLVE() sigdorf_solve_dense(ROWS, COLUMNS, costs, count, COLUMNS, 1, prices, 1, 1, choice, ROWS, prices, COLUMNS, hall, ROWS, &found)
     for (size_t k = 0; k < ROWS; k++)
         costs[2 * k] = 1;

@@ -33,7 +33,8 @@ class Notebook(Limited):
         fresh = nbformat.read(NOTEBOOK, as_version=4)
         package = os.pathsep.join([str(ROOT / "python"), os.environ.get("PYTHONPATH", "")])
         client = nbclient.NotebookClient(fresh, timeout=50, resources={"metadata": {"path": str(NOTEBOOK.parent)}})
-        client.execute(env=os.environ | {"PYTHONPATH": package, "PYTHONDONTWRITEBYTECODE": "1"})
+        quiet = {"PYTHONDONTWRITEBYTECODE": "1", "PYDEVD_DISABLE_FILE_VALIDATION": "1"}
+        client.execute(env=os.environ | quiet | {"PYTHONPATH": package})
         self.assertTrue(any(list(shown(cell)) for cell in kept.cells))
         for before, after in zip(kept.cells, fresh.cells, strict=True):
             self.assertEqual(list(shown(after)), list(shown(before)), after.source)

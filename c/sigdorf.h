@@ -130,8 +130,9 @@ int32_t sigdorf_solve_by_messages(uint32_t persons, uint32_t objects, const sigd
  * SIGDORF_OPTIMAL, SIGDORF_BRACKET: choice[i] is the OBJECT of person i. His entry for it is no gap, and costs what his arc costs. The
  *   place of that arc, by which sigdorf_check takes an answer, is the number of entries before his that are no gap: without gaps
  *   i * objects + choice[i].
- * SIGDORF_SIZES: also where `stride` is below the number of objects, or where not every row lies within costs_len entries: at least
- *   (persons - 1) * stride + objects of them, and none at all where persons is 0. It comes before every other fault.
+ * SIGDORF_SIZES: also where `stride` is below the number of objects, where persons * objects is 2^32 or more, or where not every row lies
+ *   within costs_len entries: at least (persons - 1) * stride + objects of them, and none at all where persons is 0. It comes before
+ *   every other fault.
  * SIGDORF_REFUSED: found->place of SIGDORF_COST is i * objects + j for the entry of person i and object j, whatever the stride (where
  *   `objects` is 0, as many as persons count). */
 int32_t sigdorf_solve_dense(uint32_t persons, uint32_t objects, const int64_t *costs, size_t costs_len, size_t stride, int64_t none,

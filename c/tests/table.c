@@ -284,7 +284,7 @@ static void beside_lists(int count) {
     want("tables beside lists", bad, 0);
 }
 
-/* As many arcs as there may be, and one more. What is written here lies in few pages, and each call is refused before it takes memory. */
+/* As many arcs as there may be, and one more. The table takes no memory but for the few pages that are written here, and no call takes much. */
 static void limits(void) {
     enum { ROWS = 16384, COLUMNS = SIGDORF_MOST_ARCS / ROWS + 1 };
     size_t count = (size_t)ROWS * COLUMNS;
@@ -297,6 +297,10 @@ static void limits(void) {
     }
     /* The entries of these would be numbered from 0 to 2^32: it is refused before any is read, so the lengths need not be true. */
     want("too many entries", sigdorf_solve_dense(65536, 65536, costs, (size_t)1 << 32, 65536, 1, prices, 0, 1, choice, 65536, prices, 65536, hall, 65536, &found), SIGDORF_SIZES);
+    const int64_t no_start = 0;
+    want("as many arcs", sigdorf_solve_dense(ROWS, ROWS, costs, count, ROWS, 1, &no_start, 0, SIGDORF_USUAL_BIDS, choice, ROWS, prices, ROWS, hall, ROWS, &found),
+         SIGDORF_OPTIMAL);
+    want("their cost", found.cost, 0);
 #define SOLVE() sigdorf_solve_dense(ROWS, COLUMNS, costs, count, COLUMNS, 1, prices, 1, 1, choice, ROWS, prices, COLUMNS, hall, ROWS, &found)
     for (size_t k = 0; k < ROWS; k++)
         costs[2 * k] = 1;

@@ -79,7 +79,7 @@ typedef struct {
     int64_t gate_cost, gate_span;
     int unit, has_gaps, has_tails, is_small; /* small: whole numbers to 10^9 */
     int is_found;
-    /* The cost may be above the least by so many 2^-gap_unit: 0, unless the bids didn't suffice. */
+    /* The cost may be above the least by so many 2^-gap_unit: 0, unless a limit ended the search. */
     int64_t gap;
     int gap_unit;
     /* The sum of the choice's costs, turned: a whole number of 2^-sum_unit, where it is within 128 bits, and else `has_sum` is 0. */

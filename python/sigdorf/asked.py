@@ -145,7 +145,7 @@ class Asked:
         check_claim(self.problem, solution)
 
     def pairs(self, bids, words, asks=True):
-        """Rows and columns of the least pairs, and Unsettled where the bids didn't suffice for them. `asks` says whether the extension wasn't asked before."""
+        """Rows and columns of the least pairs, and Unsettled where a limit ended the search for them. `asks` says whether the extension wasn't asked before."""
         found = fast.found(self.plain(), self.maximize and self.decimals is None, False, None, None, bids) if asks else None
         if found is not None:
             return found

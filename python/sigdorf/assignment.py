@@ -32,10 +32,11 @@ def solve(
     seconds: float | None = None,
     progress: typing.Callable[[typing.Any, typing.Any], typing.Any] | None = None,
 ) -> Solution:
-    """An assignment of least cost where `is_optimal` says so, else the best that bids or time allowed, and a bound.
+    """An assignment of least cost where `is_optimal` says so, else the best that a limit allowed, and a bound.
 
     Look at `is_optimal` of the :class:`Solution`: where it is False, a limit ended the search, and another assignment
-    may cost less, down to `bound`. Where it is True, the prices of the solution show that none does.
+    may cost less, down to `bound`. Where it is True, the prices of the solution show that none does. A limit is that of
+    bids, of time, or with more than 33,000 rows that of prices, 2^61 on the scale of whole costs times rows + 1.
 
     Entry k says that row rows[k] may have column columns[k] at costs[k]. Each row gets a column, or where there are
     more rows than columns each column a row, none twice. The search of a first assignment takes O(rows * entries) time

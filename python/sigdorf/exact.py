@@ -20,7 +20,7 @@ class Answer(typing.NamedTuple):
     scale: int
     """1, or persons + 1."""
     gap: fractions.Fraction
-    """What the costs are above the least at most, in the unit of the costs: 0 but where the bids didn't suffice."""
+    """What the costs are above the least at most, in the unit of the costs: 0 but where a limit ended the search."""
 
 
 def solve_costs(persons, objects, arcs, costs, start, bids):

@@ -31,7 +31,7 @@ class Solution(typing.NamedTuple):
     cost: int | float | decimal.Decimal
     """The sum of the costs: an int of whole numbers, the nearest float of floats that aren't, and a Decimal where `decimals` was given and isn't 0."""
     bound: int | float | decimal.Decimal
-    """What no assignment costs less than (or more than, where the most is wanted): the cost, unless the bids didn't suffice."""
+    """What no assignment costs less than (or more than, where the most is wanted): the cost, unless a limit ended the search."""
     prices: numpy.ndarray
     """A price of each column, or of each row where there are more rows than columns and no capacity, in units of
     1 / `scale`: int64, or where that is too short Python's whole numbers in an object array. At these prices no entry
@@ -41,7 +41,7 @@ class Solution(typing.NamedTuple):
     exact_cost: fractions.Fraction | None = None
     """The sum of the costs, exactly."""
     gap: fractions.Fraction | int = 0
-    """What the cost is above the least one at most (below the greatest), exactly: 0, unless the bids didn't suffice."""
+    """What the cost is above the least one at most (below the greatest), exactly: 0, unless a limit ended the search."""
     labels: list[tuple] | None = None
     """The names of each pair's row and column, where the problem was a table that has names, such as a DataFrame; `dict(labels)` gives each its own."""
     costs: numpy.ndarray | None = None

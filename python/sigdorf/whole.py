@@ -7,7 +7,7 @@ from .library import ARC, BRACKET, INFEASIBLE, solve_arcs
 
 
 class Found(typing.NamedTuple):
-    """A least assignment of whole costs, or where the bids didn't suffice a bracket."""
+    """A least assignment of whole costs, or where a limit ended the search a bracket."""
 
     choice: numpy.ndarray
     """The place of an arc of each person: int64."""
@@ -16,7 +16,7 @@ class Found(typing.NamedTuple):
     cost: int
     """The sum of the choice's costs."""
     lower: int
-    """What no assignment costs less than: the cost, but in a bracket."""
+    """What no assignment costs less than: the cost, but in a bracket. Its limit is that of bids, or with many persons that of prices, 2^61."""
 
 
 class NoAssignment(Exception):

@@ -165,6 +165,23 @@ class Wide(Limited):
         self.assertLessEqual(solution.cost, sigdorf.solve(rows, columns, costs, (30_000, 30_000)).cost)
         self.assertEqual(numpy.bincount(solution.columns).tolist(), [2] * 15_000)
 
+    def test_limit_of_prices(self):
+        """A chain in which each price is above the next one by all that costs may differ: where that is beyond 2^61 there is a bound."""
+        for rows in (30_000, 50_000):
+            mine = numpy.arange(rows)
+            lists = numpy.append(mine, mine[1:]), numpy.append(mine, mine[:-1]), numpy.append(numpy.full(rows, 10**9), numpy.full(rows - 1, -(10**9))), (rows, rows)
+            solution = sigdorf.solve(*lists)
+            self.assertTrue(solution.bound <= rows * 10**9 <= solution.cost)
+            self.assertEqual(solution.is_optimal, solution.gap == 0)
+            if solution.is_optimal:
+                sigdorf.check(solution, *lists)
+            else:
+                self.assertGreater(rows, 33_000)
+                with self.assertRaisesRegex(sigdorf.Unsettled, "a limit ended the search"):
+                    solution.u
+                with self.assertRaises(sigdorf.Refused):
+                    sigdorf.check(solution, *lists)
+
     def test_most(self):
         solution = sigdorf.solve([0], [MOST - 1], [5])
         self.assertEqual((solution.cost, len(solution.prices), solution.shape), (5, MOST, (1, MOST)))

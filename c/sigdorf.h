@@ -61,7 +61,7 @@ enum sigdorf_status {
     SIGDORF_SIZES = 2,      /* a length is not the number of persons, or of objects; or the table does not lie within its length */
     SIGDORF_INFEASIBLE = 3, /* there is no assignment */
     SIGDORF_INVALID = 3,    /* of a check: the claim does not pass */
-    SIGDORF_BRACKET = 4,    /* the bids did not suffice: an assignment, and a bound */
+    SIGDORF_BRACKET = 4,    /* a limit ended the search: an assignment, and a bound */
     SIGDORF_REFUSED = 5,    /* the arcs are no problem */
     SIGDORF_MEMORY = 6,     /* malloc or realloc gave NULL; nothing was written */
     SIGDORF_START = 7       /* no run can start from the prices */

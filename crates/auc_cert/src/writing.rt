@@ -262,8 +262,8 @@ fn write_infeasible<W: Write>(
     write_numbers(writer, b"object ", objects)
 }
 
-/// Writes the text of a certificate, the one that [`read_cert`](crate::read_cert) reads. Takes O(persons + objects)
-/// writes and no memory.
+/// Writes the text of a certificate, the one that [`read_cert`](crate::read_cert) reads; where the certificate is too
+/// wide for that, a text of the same form, which nothing reads. Takes O(persons + objects) writes and no memory.
 ///
 /// # Errors
 ///

@@ -49,8 +49,8 @@ abbrev pub objects_for : ℕ → ℕ → Result ℕ ReadError
 objects_for wanted persons = if wanted == 0 then Ok persons else (if nat_lt wanted persons then Err TooFewObjects else Ok wanted)
 
 -- The stage and the arcs after some numbers of a text, or the first fault in them. The first stage has the greatest
--- number of persons, and the number of objects wanted. A later one has the numbers of persons and objects, and of the next arc the person and the object as
--- far as they have been read.
+-- number of persons, and the number of objects wanted. A later one has the numbers of persons and objects, and of the
+-- next arc the person and the object as far as they have been read.
 abbrev pub State : Type 0
 State = Result (Stage × List Arc) ReadError
 

@@ -5,13 +5,13 @@ use thiserror::Error;
 /// Why a list of arcs is no problem: its first fault. Arcs are numbered from 0.
 #[derive(Clone, Copy, Debug, PartialEq, Eq, Error)]
 pub enum ListFault {
-    /// The number of persons is 0 or above 10,000.
+    /// The number of persons is 0 or above 4,194,304.
     #[error("the number of persons is out of range")]
     Persons,
-    /// The number of objects is below that of the persons or above 20,000.
+    /// The number of objects is below that of the persons or above 4,194,304.
     #[error("the number of objects is out of range")]
     Objects,
-    /// There are more than 33,554,432 arcs, and none of the first 33,554,432 has a fault.
+    /// There are more than 268,435,456 arcs, and none of the first 268,435,456 has a fault.
     #[error("there are too many arcs")]
     TooManyArcs,
     /// The person of this arc is not one of the problem.

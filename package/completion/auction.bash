@@ -23,8 +23,8 @@ _auction() {
     --from) ;;
     *)
         case $command in
-        solve) options="--workers --bids --audit --objects --from --direct --seconds --progress --help" ;;
-        check | hall) options="--objects --help" ;;
+        solve) options="--workers --bids --audit --objects --from --direct --seconds --progress --large --help" ;;
+        check | hall) options="--objects --large --help" ;;
         mail) options="--help" ;;
         esac
         ;;

@@ -7,7 +7,7 @@ local -a commands=(
     'mail:make the calls of a script on a new mail'
     'help:show the usage'
 )
-local -a objects=('--objects[how many objects there are, 1 to 20000]:number of objects:')
+local -a objects=('--objects[how many objects there are, 1 to 20000, of large problems to 4194304]:number of objects:' '--large[take up to 4194304 persons and objects]')
 
 if (( CURRENT == 2 )); then
     _describe command commands

@@ -6,6 +6,9 @@ ONE_BEST = "auction 2\noptimal 1 2 3\nassign 1 2 3\nprice 1 0\nprice 2 5\n"
 TWO = "2\n1 1 1\n1 2 2\n2 1 1\n2 2 3\n"
 TWO_BEST = "auction 2\noptimal 2 3 3\nassign 1 2 2\nassign 2 1 1\nprice 1 7\nprice 2 5\nprice 3 0\n"
 TWO_BRACKET = "auction 2\nbracket bids 2 3 3 4\nassign 1 1 1\nassign 2 2 3\nprice 1 4\nprice 2 0\nprice 3 0\n"
+LARGE = "10001\n" + "".join(f"{person} {person} 5\n" for person in range(1, 10_002))
+LARGE_PICKS = "".join(f"assign {person} {person} 5\n" for person in range(1, 10_002))
+LARGE_BEST = f"auction 3\noptimal 10001 10001 50005\n{LARGE_PICKS}" + "".join(f"price {thing} 0\n" for thing in range(1, 10_002))
 NEAR, FAR = "2\n1 3 5\n2 3 7\n", "2\n1 15000 5\n2 15000 7\n"
 NEAR_SET = "auction 1\ninfeasible 2 1\nperson 1\nperson 2\nobject 3\n"
 FAR_SET = "auction 2\ninfeasible 2 1\nperson 1\nperson 2\nobject 15000\n"
@@ -13,13 +16,13 @@ STATUS = {"valid": 0, "invalid": 3, "refused": 5}
 
 
 class Verdicts(ToolTest):
-    def assert_verdicts(self, problem, cases):
-        """Each case is a number of objects, a certificate for the problem, and the line of its verdict."""
+    def assert_verdicts(self, problem, cases, *words):
+        """Each case is a number of objects, a certificate for the problem, and the line of its verdict; all are called with these words."""
         self.write("problem", problem)
         calls = []
         for place, (objects, certificate, _) in enumerate(cases):
             self.write(f"certificate {place}", certificate)
-            calls.append(["tools/check_certificate.py", "problem", f"certificate {place}", *(["--objects", objects] if objects else [])])
+            calls.append(["tools/check_certificate.py", "problem", f"certificate {place}", *words, *(["--objects", objects] if objects else [])])
         for (objects, certificate, line), answer in zip(cases, self.answers(calls)):
             with self.subTest(objects=objects, certificate=certificate):
                 self.assertEqual(answer, (STATUS[line.split()[0]], line + "\n", ""))
@@ -95,10 +98,32 @@ class Verdicts(ToolTest):
             ("auction 1\ninfeasible 1 1\nperson 1\nobject 10001\n", 4),
         ]])
 
+    def test_large_problem(self):
+        self.assert_verdicts(LARGE, [
+            (None, LARGE_BEST, "valid optimal 50005"),
+            (None, LARGE_BEST.replace("price 10001 0", "price 10001 10003"), "valid optimal 50005"),
+            (10002, LARGE_BEST, "invalid size"),
+            (10000, LARGE_BEST, "refused objects"),
+            (None, LARGE_BEST.replace("auction 3", "auction 1").replace("10001 10001", "10001"), "refused certificate 2"),
+        ], "--large")
+        self.assert_verdicts(LARGE, [(None, LARGE_BEST, "refused count")])
+        self.assert_verdicts(FAR.replace("15000", "4194304"), [
+            (4194304, "auction 3\ninfeasible 2 1\nperson 1\nperson 2\nobject 4194304\n", "valid infeasible 2 1"),
+            (4194303, NEAR_SET, "refused object 1"),
+        ], "--large")
+        self.assert_verdicts("4194305", [(None, "", "refused count")], "--large")
+
+    def test_small_problem_in_version_3(self):
+        best, bracket = ONE_BEST.replace("auction 2", "auction 3"), TWO_BRACKET.replace("auction 2", "auction 3")
+        self.assert_verdicts(ONE, [(2, best, "valid optimal 3"), (2, ONE_BEST, "valid optimal 3"), (3, best, "invalid size")], "--large")
+        self.assert_verdicts(ONE, [(2, best, "refused certificate 1")])
+        self.assert_verdicts(TWO, [(3, bracket, "valid bracket 3 4"), (3, bracket.replace("3 3 4", "3 2 4"), "invalid bound")], "--large")
+        self.assert_verdicts(NEAR, [(3, NEAR_SET.replace("auction 1", "auction 3"), "valid infeasible 2 1")], "--large")
+
     def test_words_at_fault(self):
         self.write("problem", ONE)
         self.write("certificate", ONE_BEST)
-        for words in [["--objects", "0"], ["--objects", "20001"], ["--objects", "two"], ["--objects"], ["third"]]:
+        for words in [["--objects", "0"], ["--objects", "20001"], ["--objects", "4194305", "--large"], ["--objects", "two"], ["--objects"], ["third"], ["--large=yes"]]:
             status, output, said = self.call("tools/check_certificate.py", "problem", "certificate", *words)
             self.assertEqual((status, output), (2, ""))
             self.assertNotIn("Traceback", said)

@@ -4,6 +4,7 @@ pub mod WriteLaws
 mod NumberWords
 mod WordLaws
 mod SizeLaws
+mod FormLaws
 mod LineLaws
 mod SecondLineLaws
 mod RunLaws

@@ -1,5 +1,6 @@
 -- Lines of rising numbers: how a run of them grows, and where it breaks off.
 use Rattle.std.proofs.Common.{◌≡◌, ℕ, ◌+◌, ◌-◌, ◌<◌, ◌≤◌, List, [], ◌∷◌, ◌++◌, Some, None, refl, sym, ap, subst, ◌∙◌, arith}
+use Rattle.auc_graph.specs.declared.limits.TheConstants.{MOST_OBJECTS}
 use Rattle.auc_cert.specs.Text.{number_line}
 use Rattle.auc_cert.specs.Fields.{number_at}
 use Rattle.auc_claim.specs.Spelled.{least_behind}
@@ -37,7 +38,7 @@ one_more_read front most last n done bytes numbers rest least here k more end h 
       high = λ all some. let reached = above_last all in omega arith;
     }
 
-pub rising_breaks : (front : List ℕ) (most last n done : ℕ) (bytes numbers rest : List ℕ) (least here end : ℕ) → most ≤ 20000 → HasRead front most last n done bytes numbers rest least → done < n → end ≡ most - (n - (done + 1))
+pub rising_breaks : (front : List ℕ) (most last n done : ℕ) (bytes numbers rest : List ℕ) (least here end : ℕ) → most ≤ MOST_OBJECTS → HasRead front most last n done bytes numbers rest least → done < n → end ≡ most - (n - (done + 1))
     → ((k : ℕ) → least ≤ k → (done + 1 ≡ n → last ≤ k) → here ≤ k) → None ≡ number_at front here end rest → BreaksRising front most last n bytes done
 rising_breaks front most last n done bytes numbers rest least here end few h lt at tight e = record {
   numbers = numbers;

@@ -4,6 +4,7 @@ use Rattle.std.specs.Prelude.{ℤ}
 use Rattle.std.proofs.lemmas.List.{append-nil, length-append}
 use Rattle.std.proofs.lemmas.List.Concat.{flat_map-append}
 use Rattle.std.proofs.lemmas.List.Elements.{All-nil, All-push, All-head, All-tail}
+use Rattle.auc_graph.specs.declared.limits.TheConstants.{MOST_OBJECTS, MOST_PERSONS}
 use Rattle.auc_claim.specs.declared.lists.Pick.{Pick}
 use Rattle.auc_graph.specs.Price.{IsPrice}
 use Rattle.auc_claim.specs.Spelled.{IsPick}
@@ -41,10 +42,10 @@ breaks_off line ok n bytes k xs rest run few none = record { front = xs; rest = 
 pub none_some : {A : Type 0} (x : A) → ◌≡◌ {A = Option A} None (Some x) → ⊥
 none_some x e = cc
 
-pub no_pick : (most i : ℕ) (rest : List ℕ) → most ≤ 20000 → i < 10000 → None ≡ pick_line_at most i rest → (x : Pick) (more : List ℕ) → IsPick most x → rest ≡ assign_line i x ++ more → ⊥
+pub no_pick : (most i : ℕ) (rest : List ℕ) → most ≤ MOST_OBJECTS → i < MOST_PERSONS → None ≡ pick_line_at most i rest → (x : Pick) (more : List ℕ) → IsPick most x → rest ≡ assign_line i x ++ more → ⊥
 no_pick most i rest few lt e x more h is = none_some (x, more) (e ∙ ap (pick_line_at most i) is ∙ pick_again most i x more few lt h)
 
-pub no_price : (j : ℕ) (rest : List ℕ) → j < 20000 → None ≡ price_line_at j rest → (z : ℤ) (more : List ℕ) → IsPrice z → rest ≡ price_line j z ++ more → ⊥
+pub no_price : (j : ℕ) (rest : List ℕ) → j < MOST_OBJECTS → None ≡ price_line_at j rest → (z : ℤ) (more : List ℕ) → IsPrice z → rest ≡ price_line j z ++ more → ⊥
 no_price j rest lt e z more h is = none_some (z, more) (e ∙ ap (price_line_at j) is ∙ price_again j z more lt h)
 
 pub pick_more : (most i : ℕ) (bytes : List ℕ) (xs : List Pick) (rest : List ℕ) (x : Pick) (more : List ℕ)
@@ -61,19 +62,19 @@ price_more j bytes xs rest z more run e = let t = price_takes j rest z more e in
 abbrev pub TellsApart : ℕ → (X : Type 0) → (ℕ → X → List ℕ) → (X → Type 0) → Type 0
 TellsApart lines X line ok = (k : ℕ) (x y : X) → k < lines → ok x → ok y → line k x ≡ line k y → x ≡ y
 
-pub picks_apart : (most : ℕ) → most ≤ 20000 → TellsApart 10000 Pick assign_line (IsPick most)
+pub picks_apart : (most : ℕ) → most ≤ MOST_OBJECTS → TellsApart MOST_PERSONS Pick assign_line (IsPick most)
 picks_apart most few k x y lt p q e =
     let pair = some_is (x, []) (y, []) (sym (pick_again most k x [] few lt p) ∙ ap (λ (l : List ℕ). pick_line_at most k (l ++ [])) e ∙ pick_again most k y [] few lt q) in
     ap (λ (t : Pick × List ℕ). t.0) pair
 
-pub prices_apart : TellsApart 20000 ℤ price_line IsPrice
+pub prices_apart : TellsApart MOST_OBJECTS ℤ price_line IsPrice
 prices_apart k x y lt p q e =
     let pair = some_is (x, []) (y, []) (sym (price_again k x [] lt p) ∙ ap (λ (l : List ℕ). price_line_at k (l ++ [])) e ∙ price_again k y [] lt q) in
     ap (λ (t : ℤ × List ℕ). t.0) pair
 
-pub numbers_apart : (front : List ℕ) → TellsApart 20000 ℕ (number_line front) (IsBelow 20000)
+pub numbers_apart : (front : List ℕ) → TellsApart MOST_OBJECTS ℕ (number_line front) (IsBelow MOST_OBJECTS)
 numbers_apart front k x y lt p q e =
-    let pair = some_is (x, []) (y, []) (sym (number_again front k 0 20000 x [] (omega arith) p (omega arith)) ∙ ap (λ (l : List ℕ). number_at front 0 20000 (l ++ [])) e ∙ number_again front k 0 20000 y [] (omega arith) q (omega arith)) in
+    let pair = some_is (x, []) (y, []) (sym (number_again front k 0 MOST_OBJECTS x [] (omega arith) p (omega arith)) ∙ ap (λ (l : List ℕ). number_at front 0 MOST_OBJECTS (l ++ [])) e ∙ number_again front k 0 MOST_OBJECTS y [] (omega arith) q (omega arith)) in
     ap (λ (t : ℕ × List ℕ). t.0) pair
 
 -- runs of one length at the front of one list of lines are the same, and so is what follows

@@ -7,9 +7,11 @@ use Rattle.std.proofs.lemmas.Int.{ints}
 use Rattle.std.proofs.lemmas.Bool.{and_parts, not-true, eqb-false, eqb-true, ne_eqb}
 use Rattle.std.proofs.Math.Seq.{take-append_seam}
 use Rattle.std.proofs.lemmas.List.Elements.{All-nil, All-cons, All-append, All-head, All-tail}
+use Rattle.auc_graph.specs.declared.limits.TheConstants.{MOST_OBJECTS}
 use Rattle.auc_claim.specs.declared.lists.Pick.{Pick}
-use Rattle.auc_claim.specs.declared.version.Version.{Version}
 use Rattle.auc_claim.specs.declared.version.Version.TheVariants.{First, Second}
+use Rattle.auc_cert.specs.declared.form.Form.{Form}
+use Rattle.auc_cert.specs.declared.form.Form.TheVariants.{Usual, Large}
 use Rattle.auc_graph.specs.Price.{IsPrice}
 use Rattle.auc_claim.specs.Spelled.{IsPick}
 use Rattle.auc_cert.specs.Text.{head_line, assign_line, price_line, number_line, numbered, joined}
@@ -111,14 +113,15 @@ digits z f = number_goes_on 10 z (inl refl) f
 pub and_number : (word : List ℕ) (z : ℤ) → All (λ b. b ≢ 10) word → FitsSigned w64 z → All (λ b. b ≢ 10) (word ++ codes " " ++ signed_decimal z)
 and_number word z h fits = and_then (word ++ codes " ") (signed_decimal z) (and_then word (codes " ") h (all_lack 10 (codes " ") refl)) (digits z fits)
 
-pub head_is_line : (version : Version) → IsLine (head_line version)
-head_is_line First = record { word = codes "auction 1"; text = refl; whole = all_lack 10 (codes "auction 1") refl }
-head_is_line Second = record { word = codes "auction 2"; text = refl; whole = all_lack 10 (codes "auction 2") refl }
+pub head_is_line : (form : Form) → IsLine (head_line form)
+head_is_line (Usual First) = record { word = codes "auction 1"; text = refl; whole = all_lack 10 (codes "auction 1") refl }
+head_is_line (Usual Second) = record { word = codes "auction 2"; text = refl; whole = all_lack 10 (codes "auction 2") refl }
+head_is_line Large = record { word = codes "auction 3"; text = refl; whole = all_lack 10 (codes "auction 3") refl }
 
-assign_is_line : (i : ℕ) (p : Pick) → i < 20000 → IsPick 20000 p → IsLine (assign_line i p)
+assign_is_line : (i : ℕ) (p : Pick) → i < MOST_OBJECTS → IsPick MOST_OBJECTS p → IsLine (assign_line i p)
 assign_is_line i p lt h =
     let fits : FitsSigned w64 (pos (i + 1)) = omega (arith, ints) in
-    let object : p.object < 20000 = h.object in
+    let object : p.object < MOST_OBJECTS = h.object in
     let fits_object : FitsSigned w64 (pos (p.object + 1)) = omega (arith, ints) in
     let fits_cost : FitsSigned w64 p.cost = omega (arith, ints, h.low, h.high) in
     let front : List ℕ = codes "assign " ++ decimal (i + 1) in
@@ -129,7 +132,7 @@ assign_is_line i p lt h =
       whole = and_number (front ++ codes " " ++ decimal (p.object + 1)) p.cost (and_number front (pos (p.object + 1)) start fits_object) fits_cost;
     }
 
-price_is_line : (j : ℕ) (z : ℤ) → j < 20000 → IsPrice z → IsLine (price_line j z)
+price_is_line : (j : ℕ) (z : ℤ) → j < MOST_OBJECTS → IsPrice z → IsLine (price_line j z)
 price_is_line j z lt h =
     let fits : FitsSigned w64 (pos (j + 1)) = omega (arith, ints) in
     let fits_price : FitsSigned w64 z = omega (arith, ints, h.low, h.high) in
@@ -140,7 +143,7 @@ price_is_line j z lt h =
       whole = and_number front z (and_then (codes "price ") (decimal (j + 1)) (all_lack 10 (codes "price ") refl) (digits (pos (j + 1)) fits)) fits_price;
     }
 
-numbered_lines : (X : Type 0) (line : ℕ → X → List ℕ) (ok : X → Type 0) → ((k : ℕ) (x : X) → k < 20000 → ok x → IsLine (line k x)) → (k : ℕ) (xs : List X) → k + length xs ≤ 20000 → All ok xs → AreLines (numbered line k xs)
+numbered_lines : (X : Type 0) (line : ℕ → X → List ℕ) (ok : X → Type 0) → ((k : ℕ) (x : X) → k < MOST_OBJECTS → ok x → IsLine (line k x)) → (k : ℕ) (xs : List X) → k + length xs ≤ MOST_OBJECTS → All ok xs → AreLines (numbered line k xs)
 numbered_lines X line ok is k [] le all = tt
 numbered_lines X line ok is k (x ∷ xs) le all = (is k x (omega arith) (All-head ok x xs all), numbered_lines X line ok is (k + 1) xs (omega arith) (All-tail ok x xs all))
 
@@ -148,20 +151,20 @@ pub lines_append : (a b : List (List ℕ)) → AreLines a → AreLines b → Are
 lines_append [] b p q = q
 lines_append (l ∷ a) b p q = (p.0, lines_append a b p.1 q)
 
-wide_pick : (most : ℕ) (p : Pick) → most ≤ 20000 → IsPick most p → IsPick 20000 p
+wide_pick : (most : ℕ) (p : Pick) → most ≤ MOST_OBJECTS → IsPick most p → IsPick MOST_OBJECTS p
 wide_pick most p few h = let object = h.object in record { object = omega (arith, object, few); low = h.low; high = h.high }
 
-pub picks_lines : (most : ℕ) (picks : List Pick) → most ≤ 20000 → length picks ≤ 20000 → All (IsPick most) picks → AreLines (numbered assign_line 0 picks)
+pub picks_lines : (most : ℕ) (picks : List Pick) → most ≤ MOST_OBJECTS → length picks ≤ MOST_OBJECTS → All (IsPick most) picks → AreLines (numbered assign_line 0 picks)
 picks_lines most picks few le all =
     numbered_lines Pick assign_line (IsPick most) (λ i p lt h. assign_is_line i p lt (wide_pick most p few h)) 0 picks (omega arith) all
 
-pub prices_lines : (prices : List ℤ) → length prices ≤ 20000 → All IsPrice prices → AreLines (numbered price_line 0 prices)
+pub prices_lines : (prices : List ℤ) → length prices ≤ MOST_OBJECTS → All IsPrice prices → AreLines (numbered price_line 0 prices)
 prices_lines prices le all = numbered_lines ℤ price_line IsPrice price_is_line 0 prices (omega arith) all
 
-number_is_line : (front : List ℕ) → lacks 10 front ≡ true → (place k : ℕ) → place < 20000 → IsBelow 20000 k → IsLine (number_line front place k)
+number_is_line : (front : List ℕ) → lacks 10 front ≡ true → (place k : ℕ) → place < MOST_OBJECTS → IsBelow MOST_OBJECTS k → IsLine (number_line front place k)
 number_is_line front whole place k lt below =
     let fits : FitsSigned w64 (pos (k + 1)) = omega (arith, ints) in
     record { word = front ++ decimal (k + 1); text = refl; whole = and_then front (decimal (k + 1)) (all_lack 10 front whole) (digits (pos (k + 1)) fits) }
 
-pub numbers_lines : (front : List ℕ) → lacks 10 front ≡ true → (numbers : List ℕ) → length numbers ≤ 20000 → All (IsBelow 20000) numbers → AreLines (numbered (number_line front) 0 numbers)
-numbers_lines front whole numbers le all = numbered_lines ℕ (number_line front) (IsBelow 20000) (number_is_line front whole) 0 numbers (omega arith) all
+pub numbers_lines : (front : List ℕ) → lacks 10 front ≡ true → (numbers : List ℕ) → length numbers ≤ MOST_OBJECTS → All (IsBelow MOST_OBJECTS) numbers → AreLines (numbered (number_line front) 0 numbers)
+numbers_lines front whole numbers le all = numbered_lines ℕ (number_line front) (IsBelow MOST_OBJECTS) (number_is_line front whole) 0 numbers (omega arith) all

@@ -9,7 +9,8 @@ use Rattle.auc_claim.specs.declared.cert.CertParts.{CertParts}
 use Rattle.auc_claim.specs.declared.cert.CertParts.TheVariants.{Optimal, Infeasible, Bracket}
 use Rattle.auc_claim.specs.declared.reason.Reason.TheVariants.{Bids, Mail}
 use Rattle.auc_claim.specs.declared.refused.CertRefused.TheVariants.{WrongSize, NoSuchArc, ObjectTwice, WrongCost, Slack, LeftOver, NotHall, WrongBound}
-use Rattle.auc_cert.specs.Text.{text}
+use Rattle.auc_cert.specs.declared.form.Form.TheVariants.{Large}
+use Rattle.auc_cert.specs.Text.{text, text_in}
 use Rattle.auc_claim.specs.Claim.{fault_of}
 
 abbrev arc : ℕ → ℕ → ℤ → Arc
@@ -172,3 +173,21 @@ far_object_spelled = refl
 near_object_spelled : text (Infeasible (0 ∷ 1 ∷ []) (9999 ∷ [])) ≡ codes "auction 1\ninfeasible 2 1\nperson 1\nperson 2\nobject 10000\n"
 unfolding digits
 near_object_spelled = refl
+
+-- version 3 is for the names that the others can't spell
+large_person_spelled : text (Infeasible (7 ∷ 10000 ∷ []) (9 ∷ [])) ≡ codes "auction 3\ninfeasible 2 1\nperson 8\nperson 10001\nobject 10\n"
+unfolding digits
+large_person_spelled = refl
+
+large_object_spelled : text (Infeasible (0 ∷ []) (20000 ∷ [])) ≡ codes "auction 3\ninfeasible 1 1\nperson 1\nobject 20001\n"
+unfolding digits
+large_object_spelled = refl
+
+-- and has a text of others too
+small_in_version_3 : text_in Large (Optimal (neg_ℤ (pos 7)) (pick 0 (neg_ℤ (pos 7)) ∷ []) (pos 1 ∷ [])) ≡ codes "auction 3\noptimal 1 1 -7\nassign 1 1 -7\nprice 1 1\n"
+unfolding digits
+small_in_version_3 = refl
+
+small_bracket_in_version_3 : text_in Large (Bracket Mail (pos 3) (pos 4) (pick 0 (pos 1) ∷ pick 1 (pos 3) ∷ []) (pos 4 ∷ pos 0 ∷ [])) ≡ codes "auction 3\nbracket mail 2 2 3 4\nassign 1 1 1\nassign 2 2 3\nprice 1 4\nprice 2 0\n"
+unfolding digits
+small_bracket_in_version_3 = refl

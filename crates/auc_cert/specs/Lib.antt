@@ -1,4 +1,5 @@
 pub mod Writing
+pub mod Form
 pub mod Text
 pub mod CertReading
 pub mod Fields

@@ -5,14 +5,15 @@ ghost use Rattle.std.specs.Prelude.{◌≡◌, ◌<◌, ◌≤◌, IfSome};
 ghost use Rattle.auc_cert.specs.Fields.{viewed, head_at, pick_line_at, price_line_at, number_at};
 
 use crate::fields::{field_of, index_of};
+use crate::form::Form;
 use auc_claim::{Pick, Version};
-use auc_graph::{MOST_COST, MOST_PRICE};
+use auc_graph::{MOST_COST, MOST_OBJECTS, MOST_PERSONS, MOST_PRICE};
 
 /// The pick on the line of a person at the front, of one of `most` objects, and the text after the line.
 #[tactic(auto, unfolding(crate::specs::Fields::pick_line_at))]
 pub(crate) fn pick_of(bytes: &[u8], most: u32, person: u32) -> Option<(Pick, &[u8])>
-    requires most { most ≤ 20000 }
-    requires person { person < 10000 }
+    requires most { most ≤ MOST_OBJECTS }
+    requires person { person < MOST_PERSONS }
     ensures { viewed (λ x. (x.0, x.1.now)) result ≡ pick_line_at most person bytes.now }
 {
     let place = person as i64 + 1;
@@ -29,7 +30,7 @@ pub(crate) fn pick_of(bytes: &[u8], most: u32, person: u32) -> Option<(Pick, &[u
 /// The price on the line of an object at the front, and the text after the line.
 #[tactic(auto, unfolding(crate::specs::Fields::price_line_at))]
 pub(crate) fn price_of(bytes: &[u8], object: u32) -> Option<(i64, &[u8])>
-    requires { object < 20000 }
+    requires { object < MOST_OBJECTS }
     ensures { viewed (λ x. (x.0, x.1.now)) result ≡ price_line_at object bytes.now }
 {
     let place = object as i64 + 1;
@@ -45,7 +46,7 @@ pub(crate) fn number_of<'a>(
     least: u32,
     end: u32,
 ) -> Option<(u32, &'a [u8])>
-    requires { end ≤ 20000 }
+    requires { end ≤ MOST_OBJECTS }
     ensures bounds { IfSome result (λ x. (least ≤ x.0) × (x.0 < end)) }
     ensures exact { viewed (λ x. (x.0, x.1.now)) result ≡ number_at front.now least end bytes.now }
 {
@@ -53,14 +54,20 @@ pub(crate) fn number_of<'a>(
     Some((index_of(number), rest))
 }
 
-/// The version on the first line, and the text after the line.
+/// The form that the first line names, and the text after the line; version 3 only where large claims are taken.
 #[tactic(auto, unfolding(crate::specs::Fields::head_at, crate::specs::Fields::after))]
-pub(crate) fn head_of(bytes: &[u8]) -> Option<(Version, &[u8])>
-    ensures { viewed (λ x. (x.0, x.1.now)) result ≡ head_at bytes.now }
+pub(crate) fn head_of(bytes: &[u8], large: bool) -> Option<(Form, &[u8])>
+    ensures { viewed (λ x. (x.0, x.1.now)) result ≡ head_at large bytes.now }
 {
     if let Some(rest) = bytes.strip_prefix(b"auction 1\n".as_slice()) {
-        return Some((Version::First, rest));
+        return Some((Form::Usual(Version::First), rest));
     }
-    let rest = bytes.strip_prefix(b"auction 2\n".as_slice())?;
-    Some((Version::Second, rest))
+    if let Some(rest) = bytes.strip_prefix(b"auction 2\n".as_slice()) {
+        return Some((Form::Usual(Version::Second), rest));
+    }
+    if !large {
+        return None;
+    }
+    let rest = bytes.strip_prefix(b"auction 3\n".as_slice())?;
+    Some((Form::Large, rest))
 }

@@ -4,14 +4,17 @@ ghost use Rattle.std.specs.Prelude.{◌≡◌, ◌≤◌, ◌+◌, length, IfOk,
 ghost use Rattle.auc_graph.specs.Memory.{AnswersUnless};
 ghost use Rattle.auc_cert.specs.Runs.{IsRun, BreaksOff, NamesLine, From};
 ghost use Rattle.auc_graph.specs.Price.{IsPrice};
-ghost use Rattle.auc_claim.specs.Spelled.{IsPick, IsChoice};
+ghost use Rattle.auc_claim.specs.Spelled.{IsPick};
+ghost use Rattle.auc_cert.specs.Form.{IsChoiceIn};
 ghost use Rattle.auc_cert.specs.Text.{assign_line, price_line, joined, choice_lines};
 ghost use Rattle.auc_cert.specs.CertReading.{IsFirstBadOf, ChoiceLines};
-ghost use Rattle.auc_cert.specs.SecondLine.{AreCounted};
+ghost use Rattle.auc_cert.specs.SecondLine.{AreSizes};
 
 use crate::cert_lines::{pick_of, price_of};
+use crate::form::Form;
 use crate::text_error::CertTextError;
-use auc_claim::{Pick, Picks, Prices, Version};
+use auc_claim::{Pick, Picks, Prices};
+use auc_graph::{MOST_OBJECTS, MOST_PERSONS};
 use std::alloc::Global;
 
 /// The picks of the persons, each on its own line and of one of `most` objects, and the text after them.
@@ -21,8 +24,8 @@ fn picks_of(
     most: u32,
     bytes: &[u8],
 ) -> Result<(Vec<Pick>, &[u8]), CertTextError>
-    requires persons { persons ≤ 10000 }
-    requires most { most ≤ 20000 }
+    requires persons { persons ≤ MOST_PERSONS }
+    requires most { most ≤ MOST_OBJECTS }
     ensures found { IfOk result (λ x. IsRun assign_line (IsPick most) persons bytes.now x.0.items x.1.now) }
     ensures line { AnswersUnless CertTextError.NoMemory (λ x. x) result
         (λ r. IfErr r (NamesLine (From 2 (BreaksOff assign_line (IsPick most) persons bytes.now)))) }
@@ -51,8 +54,8 @@ fn prices_of(
     first: u64,
     bytes: &[u8],
 ) -> Result<(Vec<i64>, &[u8]), CertTextError>
-    requires objects { objects ≤ 20000 }
-    requires first { first ≤ 20000 }
+    requires objects { objects ≤ MOST_OBJECTS }
+    requires first { first ≤ 2 + MOST_PERSONS }
     ensures found { IfOk result (λ x. IsRun price_line IsPrice objects bytes.now x.0.items x.1.now) }
     ensures line { AnswersUnless CertTextError.NoMemory (λ x. x) result
         (λ r. IfErr r (NamesLine (From first (BreaksOff price_line IsPrice objects bytes.now)))) }
@@ -74,23 +77,23 @@ fn prices_of(
     Ok((prices, rest))
 }
 
-/// The picks of the persons and the prices of the objects, after the first two lines of a certificate that ends with
-/// them.
+/// The picks of the persons and the prices of the objects, after the first two lines of a certificate of this form that
+/// ends with them.
 pub(crate) fn choice_of(
     alloc: Global,
+    form: Form,
     persons: u32,
     objects: u32,
     bytes: &[u8],
 ) -> Result<(Picks, Prices), CertTextError>
-    requires { AreCounted persons objects }
+    requires { AreSizes form persons objects }
     ensures found { IfOk result
-        (λ x. IsChoice x.0 x.1 × (length x.0 ≡ persons) × (length x.1 ≡ objects)
+        (λ x. IsChoiceIn form x.0 x.1 × (length x.0 ≡ persons) × (length x.1 ≡ objects)
         × (bytes.now ≡ joined (choice_lines x.0 x.1))) }
     ensures line { AnswersUnless CertTextError.NoMemory (λ x. x) result
-        (λ r. IfErr r (NamesLine (From 2 (IsFirstBadOf (ChoiceLines persons objects) bytes.now)))) }
+        (λ r. IfErr r (NamesLine (From 2 (IsFirstBadOf (ChoiceLines form persons objects) bytes.now)))) }
 {
-    let most = Version::of_sizes(persons as usize, objects as usize).most_objects();
-    let (choice, rest) = picks_of(alloc, persons, most, bytes)?;
+    let (choice, rest) = picks_of(alloc, persons, form.most_objects(), bytes)?;
     let (prices, rest) = prices_of(alloc, objects, 2 + persons as u64, rest)?;
     if !rest.is_empty() {
         return Err(CertTextError::Line {

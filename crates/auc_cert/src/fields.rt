@@ -5,6 +5,7 @@ ghost use Rattle.std.specs.Int.{w64};
 ghost use Rattle.std.specs.Fmt.{signed_decimal};
 ghost use Rattle.auc_cert.specs.Fields.{viewed, word_at, spelled, field_at};
 
+use auc_graph::MOST_OBJECTS;
 use itoa::Buffer;
 use std::str;
 
@@ -75,7 +76,7 @@ pub(crate) fn field_of<'a>(
 /// A number from 1, as a number from 0.
 pub(crate) fn index_of(number: i64) -> u32
     requires low { pos 1 ≤ℤ number }
-    requires high { number ≤ℤ pos 20000 }
+    requires high { number ≤ℤ pos MOST_OBJECTS }
     ensures { result ≡ unsigned_abs number - 1 }
 {
     (number - 1) as u32

@@ -9,6 +9,7 @@
 mod cert_lines;
 mod choice_reading;
 mod fields;
+mod form;
 mod laws;
 mod line;
 mod name_reading;
@@ -23,8 +24,9 @@ pub use auc_claim::{
     Cert, CertParts, CertRefused, HIGHEST_START, Pick, Picks, Prices, Reason, StartError, check,
     cost_of, high_price, start_prices,
 };
-pub use laws::no_spelling_begins_another;
+pub use form::Form;
+pub use laws::{faultless_claims_have_texts, no_spelling_begins_another};
 pub use output::{Part, WriteFault, write_counted, write_parts, write_whole};
-pub use reading::read_cert;
+pub use reading::{read_cert, read_large_cert};
 pub use text_error::CertTextError;
 pub use writing::{write_cert, write_picks};

@@ -3,15 +3,16 @@
 ghost use Rattle.std.specs.Prelude.{◌≡◌, ◌≤◌, ◌<◌, ◌+◌, ℕ, length, IfOk, IfErr};
 ghost use Rattle.auc_graph.specs.Memory.{AnswersUnless};
 ghost use Rattle.auc_cert.specs.Runs.{IsRisingRun, BreaksRising, NamesLine, From};
-ghost use Rattle.auc_claim.specs.Spelled.{least_behind, names_version, AreNamed};
-ghost use Rattle.auc_cert.specs.SecondLine.{AreCounts, least_last};
+ghost use Rattle.auc_claim.specs.Spelled.{least_behind};
+ghost use Rattle.auc_cert.specs.Form.{AreNamedIn};
+ghost use Rattle.auc_cert.specs.SecondLine.{AreCounts};
 ghost use Rattle.auc_cert.specs.Text.{joined, name_lines};
 ghost use Rattle.auc_cert.specs.CertReading.{IsFirstBadOf, NameLines};
 
 use crate::cert_lines::number_of;
+use crate::form::Form;
 use crate::text_error::CertTextError;
-use auc_claim::{MOST_OBJECTS_IN_FIRST, Version};
-use auc_graph::{Indices, TEXT_PERSONS};
+use auc_graph::{Indices, MOST_OBJECTS, MOST_PERSONS};
 use std::alloc::Global;
 
 /// The least number that may come after `done` of `count` numbers: `least`, and for the last one at least `last`.
@@ -39,10 +40,10 @@ fn rising_of<'a>(
     first: u64,
     bytes: &'a [u8],
 ) -> Result<(Vec<u32>, &'a [u8]), CertTextError>
-    requires most { most ≤ 20000 }
+    requires most { most ≤ MOST_OBJECTS }
     requires last { last ≤ most }
     requires count { count ≤ most }
-    requires first { first ≤ 20000 }
+    requires first { first ≤ 2 + MOST_PERSONS }
     ensures found { IfOk result (λ x. IsRisingRun front.now most count bytes.now x.0.items x.1.now) }
     ensures last { IfOk result (λ x. 0 < count → last < least_behind 0 x.0.items) }
     ensures line { AnswersUnless CertTextError.NoMemory (λ x. x) result
@@ -73,37 +74,28 @@ fn rising_of<'a>(
     Ok((numbers, rest))
 }
 
-/// The least object, numbered from 0, that may be the last named one.
-fn least_last(version: Version) -> u32
-    ensures { result ≡ least_last version }
-{
-    match version {
-        Version::First => 0,
-        Version::Second => MOST_OBJECTS_IN_FIRST,
-    }
-}
-
-/// The named persons and objects, after the first two lines of a certificate of this version that ends with them.
+/// The named persons and objects, after the first two lines of a certificate of this form that ends with them.
 pub(crate) fn names_of(
     alloc: Global,
-    version: Version,
+    form: Form,
     persons: u32,
     objects: u32,
     bytes: &[u8],
 ) -> Result<(Indices, Indices), CertTextError>
-    requires { AreCounts version persons objects }
+    requires { AreCounts form persons objects }
     ensures found { IfOk result
-        (λ x. AreNamed x.0 x.1 × (names_version x.1 ≡ version) × (length x.0 ≡ persons) × (length x.1 ≡ objects) ×
+        (λ x. AreNamedIn form x.0 x.1 × (length x.0 ≡ persons) × (length x.1 ≡ objects) ×
         (bytes.now ≡ joined (name_lines x.0 x.1))) }
     ensures line { AnswersUnless CertTextError.NoMemory (λ x. x) result
-        (λ r. IfErr r (NamesLine (From 2 (IsFirstBadOf (NameLines version persons objects) bytes.now)))) }
+        (λ r. IfErr r (NamesLine (From 2 (IsFirstBadOf (NameLines form persons objects) bytes.now)))) }
 {
-    let (named, rest) = rising_of(alloc, b"person ", TEXT_PERSONS, 0, persons, 2, bytes)?;
+    let most = form.most_persons();
+    let (named, rest) = rising_of(alloc, b"person ", most, 0, persons, 2, bytes)?;
     let (known, rest) = rising_of(
         alloc,
         b"object ",
-        version.most_objects(),
-        least_last(version),
+        form.most_objects(),
+        form.least_last(),
         objects,
         2 + persons as u64,
         rest,

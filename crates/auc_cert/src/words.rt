@@ -12,15 +12,17 @@ const REASONS: [Reason; 5] = [
     Reason::Mail,
 ];
 
+use crate::form::Form;
 use auc_claim::{Reason, Version};
 
 /// The first line of a text.
-pub(crate) fn head_line(version: Version) -> &'static [u8]
-    ensures { result.now ≡ head_line version }
+pub(crate) fn head_line(form: Form) -> &'static [u8]
+    ensures { result.now ≡ head_line form }
 {
-    match version {
-        Version::First => b"auction 1\n",
-        Version::Second => b"auction 2\n",
+    match form {
+        Form::Usual(Version::First) => b"auction 1\n",
+        Form::Usual(Version::Second) => b"auction 2\n",
+        Form::Large => b"auction 3\n",
     }
 }
 

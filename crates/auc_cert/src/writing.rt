@@ -5,61 +5,61 @@ ghost use Rattle.auc_cert.specs.Writing.{Writes};
 ghost use Rattle.auc_cert.specs.Text.{text, head_line, assign_line, price_line, optimal_line, infeasible_line};
 ghost use Rattle.auc_cert.specs.Text.{bracket_line, number_line, numbered, joined, choice_lines};
 
+use crate::form::Form;
 use crate::line::Line;
 use crate::output::{Part, WriteFault, write_parts, write_whole};
 use crate::words::{head_line, reason_word};
-use auc_claim::{Cert, CertParts, Pick, Reason, Version, names_version};
+use auc_claim::{Cert, CertParts, Pick, Reason};
 use std::io::Write;
 
 /// Writes the first two lines of an optimal certificate.
 fn write_optimal_head<W: Write>(
     writer: &mut W,
-    version: Version,
+    form: Form,
     persons: u64,
     objects: u64,
     cost: i64,
 ) -> Result<(), WriteFault>
     ensures { Writes result (W.contents writer.old) (W.contents writer.new)
-        (head_line version ++ optimal_line version persons objects cost) }
+        (head_line form ++ optimal_line form persons objects cost) }
 {
-    match version {
-        Version::First => {
-            let parts = [
-                Part::Words(b"auction 1\noptimal "),
-                Part::Count(persons),
-                Part::Space,
-                Part::Number(cost),
-                Part::LineEnd,
-            ];
-            write_parts(writer, &parts)
-        }
-        Version::Second => {
-            let parts = [
-                Part::Words(b"auction 2\noptimal "),
-                Part::Count(persons),
-                Part::Space,
-                Part::Count(objects),
-                Part::Space,
-                Part::Number(cost),
-                Part::LineEnd,
-            ];
-            write_parts(writer, &parts)
-        }
+    let head = head_line(form);
+    if form.has_objects() {
+        let parts = [
+            Part::Words(head),
+            Part::Words(b"optimal "),
+            Part::Count(persons),
+            Part::Space,
+            Part::Count(objects),
+            Part::Space,
+            Part::Number(cost),
+            Part::LineEnd,
+        ];
+        return write_parts(writer, &parts);
     }
+    let parts = [
+        Part::Words(head),
+        Part::Words(b"optimal "),
+        Part::Count(persons),
+        Part::Space,
+        Part::Number(cost),
+        Part::LineEnd,
+    ];
+    write_parts(writer, &parts)
 }
 
 /// Writes the first two lines of an infeasible certificate.
 fn write_infeasible_head<W: Write>(
     writer: &mut W,
-    version: Version,
+    form: Form,
     persons: u64,
     objects: u64,
 ) -> Result<(), WriteFault>
     ensures { Writes result (W.contents writer.old) (W.contents writer.new)
-        (head_line version ++ infeasible_line persons objects) }
+        (head_line form ++ infeasible_line persons objects) }
 {
     let parts = [
-        Part::Words(head_line(version)),
+        Part::Words(head_line(form)),
         Part::Words(b"infeasible "),
         Part::Count(persons),
         Part::Space,
@@ -72,7 +72,7 @@ fn write_infeasible_head<W: Write>(
 /// Writes the first two lines of a bracket.
 fn write_bracket_head<W: Write>(
     writer: &mut W,
-    version: Version,
+    form: Form,
     reason: Reason,
     persons: u64,
     objects: u64,
@@ -80,40 +80,39 @@ fn write_bracket_head<W: Write>(
     cost: i64,
 ) -> Result<(), WriteFault>
     ensures { Writes result (W.contents writer.old) (W.contents writer.new)
-        (head_line version ++ bracket_line version reason persons objects lower cost) }
+        (head_line form ++ bracket_line form reason persons objects lower cost) }
 {
-    match version {
-        Version::First => {
-            let parts = [
-                Part::Words(b"auction 1\nbracket "),
-                Part::Words(reason_word(reason)),
-                Part::Space,
-                Part::Count(persons),
-                Part::Space,
-                Part::Number(lower),
-                Part::Space,
-                Part::Number(cost),
-                Part::LineEnd,
-            ];
-            write_parts(writer, &parts)
-        }
-        Version::Second => {
-            let parts = [
-                Part::Words(b"auction 2\nbracket "),
-                Part::Words(reason_word(reason)),
-                Part::Space,
-                Part::Count(persons),
-                Part::Space,
-                Part::Count(objects),
-                Part::Space,
-                Part::Number(lower),
-                Part::Space,
-                Part::Number(cost),
-                Part::LineEnd,
-            ];
-            write_parts(writer, &parts)
-        }
+    let (head, word) = (head_line(form), reason_word(reason));
+    if form.has_objects() {
+        let parts = [
+            Part::Words(head),
+            Part::Words(b"bracket "),
+            Part::Words(word),
+            Part::Space,
+            Part::Count(persons),
+            Part::Space,
+            Part::Count(objects),
+            Part::Space,
+            Part::Number(lower),
+            Part::Space,
+            Part::Number(cost),
+            Part::LineEnd,
+        ];
+        return write_parts(writer, &parts);
     }
+    let parts = [
+        Part::Words(head),
+        Part::Words(b"bracket "),
+        Part::Words(word),
+        Part::Space,
+        Part::Count(persons),
+        Part::Space,
+        Part::Number(lower),
+        Part::Space,
+        Part::Number(cost),
+        Part::LineEnd,
+    ];
+    write_parts(writer, &parts)
 }
 
 /// Writes the line of a person, who is numbered from 0.
@@ -195,14 +194,8 @@ fn write_optimal<W: Write>(
     ensures { Writes result (W.contents writer.old) (W.contents writer.new)
         (text (CertParts.Optimal cost choice.now prices.now)) }
 {
-    let version = Version::of_sizes(choice.len(), prices.len());
-    write_optimal_head(
-        writer,
-        version,
-        choice.len() as u64,
-        prices.len() as u64,
-        cost,
-    )?;
+    let form = Form::of_sizes(choice.len(), prices.len());
+    write_optimal_head(writer, form, choice.len() as u64, prices.len() as u64, cost)?;
     write_choice(writer, choice, prices)
 }
 
@@ -219,9 +212,9 @@ fn write_bracket<W: Write>(
     ensures { Writes result (W.contents writer.old) (W.contents writer.new)
         (text (CertParts.Bracket reason lower cost choice.now prices.now)) }
 {
-    let version = Version::of_sizes(choice.len(), prices.len());
+    let form = Form::of_sizes(choice.len(), prices.len());
     let (persons, objects) = (choice.len() as u64, prices.len() as u64);
-    write_bracket_head(writer, version, reason, persons, objects, lower, cost)?;
+    write_bracket_head(writer, form, reason, persons, objects, lower, cost)?;
     write_choice(writer, choice, prices)
 }
 
@@ -256,14 +249,15 @@ fn write_infeasible<W: Write>(
     ensures { Writes result (W.contents writer.old) (W.contents writer.new)
         (text (CertParts.Infeasible persons.now objects.now)) }
 {
-    let version = names_version(objects);
-    write_infeasible_head(writer, version, persons.len() as u64, objects.len() as u64)?;
+    let form = Form::of_names(persons, objects);
+    write_infeasible_head(writer, form, persons.len() as u64, objects.len() as u64)?;
     write_numbers(writer, b"person ", persons)?;
     write_numbers(writer, b"object ", objects)
 }
 
 /// Writes the text of a certificate, the one that [`read_cert`](crate::read_cert) reads; where the certificate is too
-/// wide for that, a text of the same form, which nothing reads. Takes O(persons + objects) writes and no memory.
+/// large for that, the one of version 3, which [`read_large_cert`](crate::read_large_cert) reads. Takes
+/// O(persons + objects) writes and no memory.
 ///
 /// # Errors
 ///

@@ -111,7 +111,7 @@ impl Cert {
     ghost use Rattle.auc_claim.specs.InRange.{IsInRange};
     ghost use Rattle.auc_claim.specs.Spelled.{IsSpelled};
 
-    /// The certificate of these parts. The parts are returned where no text spells them:
+    /// The certificate of these parts. The parts are returned where no text of versions 1 and 2 spells them:
     ///
     /// - There are no picks or more than 10,000, fewer prices than picks or more than 20,000.
     /// - An object is 20,000 or more, or, with as many prices as picks, 10,000 or more.
@@ -144,8 +144,8 @@ impl Cert {
         }
     }
 
-    /// The certificate of these parts, also of a problem that is too wide for a text. The parts are returned where
-    /// [`Cert::make`] returns them, with 4,194,304 in place of 10,000 and of 20,000.
+    /// The certificate of these parts, also of a problem that is too large for a text of versions 1 and 2. The parts
+    /// are returned where [`Cert::make`] returns them, with 4,194,304 in place of 10,000 and of 20,000.
     ///
     /// Takes O(persons + objects) time and no memory.
     pub fn make_wide(parts: CertParts) -> Result<Cert, CertParts>

@@ -5,7 +5,8 @@ ghost use Rattle.auc_claim.specs.Spelled.{most_in, version_of_sizes, names_versi
 
 use crate::limits::{MOST_OBJECTS_IN_FIRST, TEXT_OBJECTS};
 
-/// The version of a certificate's text. A claim that version 1 can spell is in version 1, any other in version 2.
+/// The version of a certificate's text, of a problem within the usual limits. A claim that version 1 can spell is in
+/// version 1, any other in version 2.
 #[derive(Clone, Copy, Debug, PartialEq, Eq)]
 pub enum Version {
     /// As many prices as picks, and objects up to 10,000.

@@ -1,1 +1,2 @@
 mod NameLaws
+mod PhraseLaws

@@ -5,9 +5,11 @@ use Rattle.std.specs.List.{list_any, starts_with}
 use Rattle.auc_graph.specs.declared.read_error.ReadError.{ReadError}
 use Rattle.auc_graph.specs.declared.read_error.ReadError.TheVariants.{Empty, BadNumber, CountRange, TooManyArcs, PersonRange, ObjectRange, CostRange, Cut, NoMemory, ReadFault, TooManyReads, TooFewObjects}
 use Rattle.auc_place.specs.declared.place.Place.{Place}
+use Rattle.auc_run.specs.declared.command.Job.{Job}
 use Rattle.auc_run.specs.declared.ending.Ending.{Ending}
 use Rattle.auc_run.specs.declared.refusal.Refusal.{Refusal}
 use Rattle.auc_run.specs.declared.refusal.Refusal.TheVariants.{NotRead, NoProblem, NoCertificate, Invalid, NoStart, NoScript, NoMemory as NoMemoryForJob, NoThreads}
+use Rattle.auc_run.specs.Jobs.{is_large}
 use Rattle.auc_messages.specs.declared.forms.Form.{Form}
 use Rattle.auc_messages.specs.declared.forms.Form.TheVariants.{Gzip, Packed, Zip, Utf16, Marked, MatrixMarket, Dimacs, Certificate, Script, Json, Separated}
 use Rattle.auc_messages.specs.Pages.{is_word}
@@ -107,9 +109,9 @@ abbrev pub form_told : Ending → Option Place → Option Form
 form_told ending place = form_at (bad_number (told_refusal ending)) place
 
 -- the words of the form, and without one those of the refusal, the limit or the status
-abbrev pub phrase_told : Ending → Option Form → List ℕ
-phrase_told ending None = phrase_for ending.status (told_reason ending) (told_refusal ending)
-phrase_told ending (Some form) = phrase_of_form form
+abbrev pub phrase_told : Job → Ending → Option Form → List ℕ
+phrase_told job ending None = phrase_for (is_large job) ending.status (told_reason ending) (told_refusal ending)
+phrase_told job ending (Some form) = phrase_of_form form
 
-abbrev pub phrase_at : Ending → Option Place → List ℕ
-phrase_at ending place = phrase_told ending (form_told ending place)
+abbrev pub phrase_at : Job → Ending → Option Place → List ℕ
+phrase_at job ending place = phrase_told job ending (form_told ending place)

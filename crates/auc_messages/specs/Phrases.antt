@@ -1,5 +1,5 @@
 -- The words of each refusal, and of each status without one: what was wrong or wanted, and what to do.
-use Rattle.std.specs.Prelude.{ℕ, ◌==◌, if◌then◌else◌, List, Option, Some, None}
+use Rattle.std.specs.Prelude.{ℕ, Bool, ◌==◌, if◌then◌else◌, List, Option, Some, None}
 use Rattle.auc_graph.specs.declared.read_error.ReadError.{ReadError}
 use Rattle.auc_graph.specs.declared.read_error.ReadError.TheVariants.{Empty, BadNumber, CountRange, TooManyArcs, PersonRange, ObjectRange, CostRange, Cut, NoMemory, ReadFault, TooManyReads, TooFewObjects}
 use Rattle.auc_claim.specs.declared.reason.Reason.{Reason}
@@ -15,21 +15,22 @@ use Rattle.auc_run.specs.declared.refusal.Refusal.{Refusal}
 use Rattle.auc_run.specs.declared.refusal.Refusal.TheVariants.{NotRead, NoProblem, NoCertificate, Invalid, NoStart, NoScript, NoMemory as NoMemoryForJob, NoThreads}
 use Rattle.auc_script.specs.declared.script_error.ScriptError.{ScriptError}
 use Rattle.auc_script.specs.declared.script_error.ScriptError.TheVariants.{Word, Range, Cut as CutScript, TooManyCalls, NoMemory as NoMemoryForScript}
-use Rattle.auc_messages.specs.declared.texts.TheConstants.{OUT_OF_MEMORY, READ_FAILED, TOO_MANY_READS, EMPTY, BAD_NUMBER, COUNT_RANGE, TOO_FEW_OBJECTS, TOO_MANY_ARCS, PERSON_RANGE, OBJECT_RANGE, COST_RANGE, CUT_PROBLEM, CERTIFICATE_LINE, WRONG_SIZE, NO_SUCH_ARC, OBJECT_TWICE, WRONG_COST, SLACK, LEFT_OVER, NOT_HALL, WRONG_BOUND, NOT_SQUARE, NO_PRICES, OTHER_SIZE, TOO_HIGH, SCRIPT_WORD, SCRIPT_RANGE, CUT_SCRIPT, TOO_MANY_CALLS, NO_THREADS, BIDS_RAN_OUT, CEILING_PASSED, POSTS_RAN_OUT, TRAIL_FULL, MAIL_FULL, NO_ASSIGNMENT, BRACKET_ALONE, GUARD_HIT, NOT_WRITTEN, INPUT_REFUSED, STATUS_ALONE}
+use Rattle.auc_messages.specs.declared.texts.TheConstants.{OUT_OF_MEMORY, READ_FAILED, TOO_MANY_READS, EMPTY, BAD_NUMBER, COUNT_RANGE, LARGE_COUNT_RANGE, TOO_FEW_OBJECTS, TOO_MANY_ARCS, LARGE_TOO_MANY_ARCS, PERSON_RANGE, OBJECT_RANGE, COST_RANGE, CUT_PROBLEM, CERTIFICATE_LINE, WRONG_SIZE, NO_SUCH_ARC, OBJECT_TWICE, WRONG_COST, SLACK, LEFT_OVER, NOT_HALL, WRONG_BOUND, NOT_SQUARE, NO_PRICES, OTHER_SIZE, TOO_HIGH, SCRIPT_WORD, SCRIPT_RANGE, CUT_SCRIPT, TOO_MANY_CALLS, NO_THREADS, BIDS_RAN_OUT, CEILING_PASSED, POSTS_RAN_OUT, TRAIL_FULL, MAIL_FULL, NO_ASSIGNMENT, BRACKET_ALONE, GUARD_HIT, NOT_WRITTEN, INPUT_REFUSED, STATUS_ALONE}
 
-unfoldable pub phrase_of_problem : ReadError → List ℕ
-phrase_of_problem Empty = EMPTY.now
-phrase_of_problem (BadNumber token) = BAD_NUMBER.now
-phrase_of_problem CountRange = COUNT_RANGE.now
-phrase_of_problem TooFewObjects = TOO_FEW_OBJECTS.now
-phrase_of_problem TooManyArcs = TOO_MANY_ARCS.now
-phrase_of_problem (PersonRange arc) = PERSON_RANGE.now
-phrase_of_problem (ObjectRange arc) = OBJECT_RANGE.now
-phrase_of_problem (CostRange arc) = COST_RANGE.now
-phrase_of_problem (Cut tokens) = CUT_PROBLEM.now
-phrase_of_problem NoMemory = OUT_OF_MEMORY.now
-phrase_of_problem ReadFault = READ_FAILED.now
-phrase_of_problem TooManyReads = TOO_MANY_READS.now
+-- the limits of persons and arcs are named as they are for a large problem, or for another one
+unfoldable pub phrase_of_problem : Bool → ReadError → List ℕ
+phrase_of_problem large Empty = EMPTY.now
+phrase_of_problem large (BadNumber token) = BAD_NUMBER.now
+phrase_of_problem large CountRange = if large then LARGE_COUNT_RANGE.now else COUNT_RANGE.now
+phrase_of_problem large TooFewObjects = TOO_FEW_OBJECTS.now
+phrase_of_problem large TooManyArcs = if large then LARGE_TOO_MANY_ARCS.now else TOO_MANY_ARCS.now
+phrase_of_problem large (PersonRange arc) = PERSON_RANGE.now
+phrase_of_problem large (ObjectRange arc) = OBJECT_RANGE.now
+phrase_of_problem large (CostRange arc) = COST_RANGE.now
+phrase_of_problem large (Cut tokens) = CUT_PROBLEM.now
+phrase_of_problem large NoMemory = OUT_OF_MEMORY.now
+phrase_of_problem large ReadFault = READ_FAILED.now
+phrase_of_problem large TooManyReads = TOO_MANY_READS.now
 
 unfoldable pub phrase_of_input : InputFault → List ℕ
 phrase_of_input Failed = READ_FAILED.now
@@ -65,15 +66,15 @@ phrase_of_script (CutScript tokens) = CUT_SCRIPT.now
 phrase_of_script TooManyCalls = TOO_MANY_CALLS.now
 phrase_of_script NoMemoryForScript = OUT_OF_MEMORY.now
 
-unfoldable pub phrase_of_refusal : Refusal → List ℕ
-phrase_of_refusal (NotRead fault) = phrase_of_input fault
-phrase_of_refusal (NoProblem error) = phrase_of_problem error
-phrase_of_refusal (NoCertificate error) = phrase_of_certificate error
-phrase_of_refusal (Invalid error) = phrase_of_claim error
-phrase_of_refusal (NoStart error) = phrase_of_start error
-phrase_of_refusal (NoScript error) = phrase_of_script error
-phrase_of_refusal NoMemoryForJob = OUT_OF_MEMORY.now
-phrase_of_refusal NoThreads = NO_THREADS.now
+unfoldable pub phrase_of_refusal : Bool → Refusal → List ℕ
+phrase_of_refusal large (NotRead fault) = phrase_of_input fault
+phrase_of_refusal large (NoProblem error) = phrase_of_problem large error
+phrase_of_refusal large (NoCertificate error) = phrase_of_certificate error
+phrase_of_refusal large (Invalid error) = phrase_of_claim error
+phrase_of_refusal large (NoStart error) = phrase_of_start error
+phrase_of_refusal large (NoScript error) = phrase_of_script error
+phrase_of_refusal large NoMemoryForJob = OUT_OF_MEMORY.now
+phrase_of_refusal large NoThreads = NO_THREADS.now
 
 -- of a limit that ended a search, with what to do against it
 unfoldable pub phrase_of_reason : Reason → List ℕ
@@ -99,7 +100,7 @@ abbrev pub phrase_of_end : ℕ → Option Reason → List ℕ
 phrase_of_end status (Some reason) = phrase_of_reason reason
 phrase_of_end status None = phrase_of_status status
 
--- a refusal is told by its own words, and where there is none, the end
-abbrev pub phrase_for : ℕ → Option Reason → Option Refusal → List ℕ
-phrase_for status reason (Some refusal) = phrase_of_refusal refusal
-phrase_for status reason None = phrase_of_end status reason
+-- a refusal of a job, whose problem may be large or not, is told by its own words, and where there is none, the end
+abbrev pub phrase_for : Bool → ℕ → Option Reason → Option Refusal → List ℕ
+phrase_for large status reason (Some refusal) = phrase_of_refusal large refusal
+phrase_for large status reason None = phrase_of_end status reason

@@ -2,6 +2,7 @@
 use Rattle.std.specs.Prelude.{◌≡◌, ℕ, ◌==◌, ◌||◌, if◌then◌else◌, Option, Some, None}
 use Rattle.auc_claim.specs.declared.reason.Reason.{Reason}
 use Rattle.auc_run.specs.declared.command.Job.{Job}
+use Rattle.auc_run.specs.Jobs.{is_large}
 use Rattle.auc_run.specs.declared.ending.Ending.{Ending}
 use Rattle.auc_run.specs.declared.refusal.Refusal.{Refusal}
 use Rattle.auc_messages.specs.declared.remark.Remark.{Remark}
@@ -25,7 +26,7 @@ subject_of_status status = if status == 3 || status == 4 then First else Neither
 
 -- it is about the input that was refused, and the spot there
 abbrev pub IsRemarkOn : Job → ℕ → Option Refusal → Remark → Type 0
-IsRemarkOn job status (Some refusal) remark = (remark.subject ≡ subject_of job refusal) × (remark.spot ≡ spot_of refusal)
+IsRemarkOn job status (Some refusal) remark = (remark.subject ≡ subject_of job refusal) × (remark.spot ≡ spot_of (is_large job) refusal)
 IsRemarkOn job status None remark = (remark.subject ≡ subject_of_status status) × (remark.spot ≡ All)
 
 abbrev pub IsRemark : Job → Ending → Remark → Type 0
@@ -33,5 +34,5 @@ IsRemark job ending remark = IsRemarkOn job ending.status (told_refusal ending) 
 
 -- its words are those of the refusal, without one those of the limit that ended the search, and without that those of
 -- the status
-abbrev pub HasWords : Ending → Remark → Type 0
-HasWords ending remark = remark.phrase.now ≡ phrase_for ending.status (told_reason ending) (told_refusal ending)
+abbrev pub HasWords : Job → Ending → Remark → Type 0
+HasWords job ending remark = remark.phrase.now ≡ phrase_for (is_large job) ending.status (told_reason ending) (told_refusal ending)

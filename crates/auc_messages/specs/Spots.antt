@@ -1,6 +1,5 @@
 -- Which input a refusal is about, and where in it. Tokens, lines, persons and objects are numbered from 0.
-use Rattle.std.specs.Prelude.{ℕ, zero, suc, ◌+◌, ◌*◌, ◌-◌, ◌^◌, min}
-use Rattle.auc_graph.specs.declared.limits.TheConstants.{TEXT_ARCS, TEXT_PERSONS}
+use Rattle.std.specs.Prelude.{ℕ, Bool, zero, suc, ◌+◌, ◌*◌, ◌-◌, ◌^◌, min}
 use Rattle.auc_graph.specs.declared.read_error.ReadError.{ReadError}
 use Rattle.auc_graph.specs.declared.read_error.ReadError.TheVariants.{Empty, BadNumber, CountRange, TooManyArcs, PersonRange, ObjectRange, CostRange, Cut, NoMemory, ReadFault, TooManyReads, TooFewObjects}
 use Rattle.auc_claim.specs.declared.refused.CertRefused.{CertRefused}
@@ -11,6 +10,7 @@ use Rattle.auc_cert.specs.declared.text_error.CertTextError.{CertTextError}
 use Rattle.auc_cert.specs.declared.text_error.CertTextError.TheVariants.{Line as BadLine, NoMemory as NoMemoryForText}
 use Rattle.auc_run.specs.declared.command.Job.{Job}
 use Rattle.auc_run.specs.declared.command.Job.TheVariants.{Solve, Check, Hall, Mail}
+use Rattle.auc_run.specs.Problems.{arcs_limit}
 use Rattle.auc_run.specs.declared.refusal.Refusal.{Refusal}
 use Rattle.auc_run.specs.declared.refusal.Refusal.TheVariants.{NotRead, NoProblem, NoCertificate, Invalid, NoStart, NoScript, NoMemory as NoMemoryForJob, NoThreads}
 use Rattle.auc_script.specs.declared.script_error.ScriptError.{ScriptError}
@@ -29,19 +29,20 @@ last_of (suc before) = Token before
 abbrev pub token_of_arc : ℕ → ℕ → Spot
 token_of_arc arc field = Token (min (arc * 3 + field) (2 ^ 64 - 1))
 
-abbrev pub spot_in_problem : ReadError → Spot
-spot_in_problem Empty = All
-spot_in_problem (BadNumber token) = Token token
-spot_in_problem CountRange = Token 0
-spot_in_problem TooManyArcs = token_of_arc TEXT_ARCS 1
-spot_in_problem (PersonRange arc) = token_of_arc arc 1
-spot_in_problem (ObjectRange arc) = token_of_arc arc 2
-spot_in_problem (CostRange arc) = token_of_arc arc 3
-spot_in_problem (Cut tokens) = last_of tokens
-spot_in_problem NoMemory = All
-spot_in_problem ReadFault = All
-spot_in_problem TooManyReads = All
-spot_in_problem TooFewObjects = Token 0
+-- the arc after the last one that is allowed is the first too many
+abbrev pub spot_in_problem : Bool → ReadError → Spot
+spot_in_problem large Empty = All
+spot_in_problem large (BadNumber token) = Token token
+spot_in_problem large CountRange = Token 0
+spot_in_problem large TooManyArcs = token_of_arc (arcs_limit large) 1
+spot_in_problem large (PersonRange arc) = token_of_arc arc 1
+spot_in_problem large (ObjectRange arc) = token_of_arc arc 2
+spot_in_problem large (CostRange arc) = token_of_arc arc 3
+spot_in_problem large (Cut tokens) = last_of tokens
+spot_in_problem large NoMemory = All
+spot_in_problem large ReadFault = All
+spot_in_problem large TooManyReads = All
+spot_in_problem large TooFewObjects = Token 0
 
 abbrev pub spot_in_certificate : CertTextError → Spot
 spot_in_certificate (BadLine line) = Line line
@@ -72,21 +73,22 @@ spot_in_script (CutScript tokens) = last_of tokens
 spot_in_script TooManyCalls = All
 spot_in_script NoMemoryForScript = All
 
-abbrev pub spot_of : Refusal → Spot
-spot_of (NotRead fault) = All
-spot_of (NoProblem error) = spot_in_problem error
-spot_of (NoCertificate error) = spot_in_certificate error
-spot_of (Invalid error) = spot_in_claim error
-spot_of (NoStart error) = spot_in_start error
-spot_of (NoScript error) = spot_in_script error
-spot_of NoMemoryForJob = All
-spot_of NoThreads = All
+-- in the problem by whether it may be large
+abbrev pub spot_of : Bool → Refusal → Spot
+spot_of large (NotRead fault) = All
+spot_of large (NoProblem error) = spot_in_problem large error
+spot_of large (NoCertificate error) = spot_in_certificate error
+spot_of large (Invalid error) = spot_in_claim error
+spot_of large (NoStart error) = spot_in_start error
+spot_of large (NoScript error) = spot_in_script error
+spot_of large NoMemoryForJob = All
+spot_of large NoThreads = All
 
 -- what was not read to its end is a mail's script, and else the certificate
 abbrev pub unread_of : Job → Subject
-unread_of (Solve workers bids audit objects from direct) = Second
-unread_of (Check objects) = Second
-unread_of (Hall objects) = Second
+unread_of (Solve workers bids audit objects from direct large) = Second
+unread_of (Check objects large) = Second
+unread_of (Hall objects large) = Second
 unread_of Mail = First
 
 abbrev pub subject_of : Job → Refusal → Subject

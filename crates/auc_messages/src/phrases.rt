@@ -1,11 +1,10 @@
 //! What is said of each refusal, and of each status without one: what was wrong or wanted, and what to do. A place
 //! is before it, and the quoted token.
 
-ghost use Rattle.std.specs.Prelude.{◌≡◌, IsTrue};
+ghost use Rattle.std.specs.Prelude.{◌≡◌};
 ghost use Rattle.auc_messages.specs.Phrases.{phrase_of_certificate, phrase_of_claim, phrase_of_end, phrase_of_input};
 ghost use Rattle.auc_messages.specs.Phrases.{phrase_of_problem, phrase_of_reason, phrase_of_refusal, phrase_of_script};
 ghost use Rattle.auc_messages.specs.Phrases.{phrase_of_start, phrase_of_status};
-ghost use Rattle.auc_messages.specs.Sentences.{is_phrase};
 
 use crate::texts;
 use auc_cert::CertTextError;
@@ -14,17 +13,18 @@ use auc_graph::ReadError;
 use auc_run::status::{BRACKET, BROKEN, INFEASIBLE, NO_MEMORY, REFUSED, UNWRITTEN};
 use auc_run::{ReadFault, Refusal, ScriptError};
 
-/// Of a problem.
+/// Of a problem, by whether it may be large.
 #[tactic(auto, unfolding(crate::specs::Phrases::phrase_of_problem))]
-fn of_problem(error: ReadError) -> &'static [u8]
-    ensures words { result.now ≡ phrase_of_problem error }
-    ensures phrase { IsTrue (is_phrase result.now) }
+fn of_problem(large: bool, error: ReadError) -> &'static [u8]
+    ensures { result.now ≡ phrase_of_problem large error }
 {
     match error {
         ReadError::Empty => texts::EMPTY,
         ReadError::BadNumber { .. } => texts::BAD_NUMBER,
+        ReadError::CountRange if large => texts::LARGE_COUNT_RANGE,
         ReadError::CountRange => texts::COUNT_RANGE,
         ReadError::TooFewObjects => texts::TOO_FEW_OBJECTS,
+        ReadError::TooManyArcs if large => texts::LARGE_TOO_MANY_ARCS,
         ReadError::TooManyArcs => texts::TOO_MANY_ARCS,
         ReadError::PersonRange { .. } => texts::PERSON_RANGE,
         ReadError::ObjectRange { .. } => texts::OBJECT_RANGE,
@@ -39,8 +39,7 @@ fn of_problem(error: ReadError) -> &'static [u8]
 /// Of an input that is read whole.
 #[tactic(auto, unfolding(crate::specs::Phrases::phrase_of_input))]
 fn of_input(fault: ReadFault) -> &'static [u8]
-    ensures words { result.now ≡ phrase_of_input fault }
-    ensures phrase { IsTrue (is_phrase result.now) }
+    ensures { result.now ≡ phrase_of_input fault }
 {
     match fault {
         ReadFault::Failed => texts::READ_FAILED,
@@ -52,8 +51,7 @@ fn of_input(fault: ReadFault) -> &'static [u8]
 /// Of a certificate's text.
 #[tactic(auto, unfolding(crate::specs::Phrases::phrase_of_certificate))]
 fn of_certificate(error: CertTextError) -> &'static [u8]
-    ensures words { result.now ≡ phrase_of_certificate error }
-    ensures phrase { IsTrue (is_phrase result.now) }
+    ensures { result.now ≡ phrase_of_certificate error }
 {
     match error {
         CertTextError::Line { .. } => texts::CERTIFICATE_LINE,
@@ -64,8 +62,7 @@ fn of_certificate(error: CertTextError) -> &'static [u8]
 /// Of a certificate's claim.
 #[tactic(auto, unfolding(crate::specs::Phrases::phrase_of_claim))]
 fn of_claim(error: CertRefused) -> &'static [u8]
-    ensures words { result.now ≡ phrase_of_claim error }
-    ensures phrase { IsTrue (is_phrase result.now) }
+    ensures { result.now ≡ phrase_of_claim error }
 {
     match error {
         CertRefused::WrongSize => texts::WRONG_SIZE,
@@ -83,8 +80,7 @@ fn of_claim(error: CertRefused) -> &'static [u8]
 /// Of a certificate that a solve is to start from.
 #[tactic(auto, unfolding(crate::specs::Phrases::phrase_of_start))]
 fn of_start(error: StartError) -> &'static [u8]
-    ensures words { result.now ≡ phrase_of_start error }
-    ensures phrase { IsTrue (is_phrase result.now) }
+    ensures { result.now ≡ phrase_of_start error }
 {
     match error {
         StartError::NotSquare => texts::NOT_SQUARE,
@@ -98,8 +94,7 @@ fn of_start(error: StartError) -> &'static [u8]
 /// Of a script.
 #[tactic(auto, unfolding(crate::specs::Phrases::phrase_of_script))]
 fn of_script(error: ScriptError) -> &'static [u8]
-    ensures words { result.now ≡ phrase_of_script error }
-    ensures phrase { IsTrue (is_phrase result.now) }
+    ensures { result.now ≡ phrase_of_script error }
 {
     match error {
         ScriptError::Word { .. } => texts::SCRIPT_WORD,
@@ -110,15 +105,14 @@ fn of_script(error: ScriptError) -> &'static [u8]
     }
 }
 
-/// Of a refusal.
+/// Of a refusal of a job, whose problem may be large or not.
 #[tactic(auto, unfolding(crate::specs::Phrases::phrase_of_refusal))]
-pub(crate) fn of_refusal(refusal: Refusal) -> &'static [u8]
-    ensures words { result.now ≡ phrase_of_refusal refusal }
-    ensures phrase { IsTrue (is_phrase result.now) }
+pub(crate) fn of_refusal(large: bool, refusal: Refusal) -> &'static [u8]
+    ensures { result.now ≡ phrase_of_refusal large refusal }
 {
     match refusal {
         Refusal::NotRead(fault) => of_input(fault),
-        Refusal::NoProblem(error) => of_problem(error),
+        Refusal::NoProblem(error) => of_problem(large, error),
         Refusal::NoCertificate(error) => of_certificate(error),
         Refusal::Invalid(error) => of_claim(error),
         Refusal::NoStart(error) => of_start(error),
@@ -131,8 +125,7 @@ pub(crate) fn of_refusal(refusal: Refusal) -> &'static [u8]
 /// Of a limit that ended a search, with what to do against it.
 #[tactic(auto, unfolding(crate::specs::Phrases::phrase_of_reason))]
 fn of_reason(reason: Reason) -> &'static [u8]
-    ensures words { result.now ≡ phrase_of_reason reason }
-    ensures phrase { IsTrue (is_phrase result.now) }
+    ensures { result.now ≡ phrase_of_reason reason }
 {
     match reason {
         Reason::Bids => texts::BIDS_RAN_OUT,
@@ -146,8 +139,7 @@ fn of_reason(reason: Reason) -> &'static [u8]
 /// Of a status, where nothing was refused and no limit is named.
 #[tactic(auto, unfolding(crate::specs::Phrases::phrase_of_status))]
 fn of_status(status: u8) -> &'static [u8]
-    ensures words { result.now ≡ phrase_of_status status }
-    ensures phrase { IsTrue (is_phrase result.now) }
+    ensures { result.now ≡ phrase_of_status status }
 {
     match status {
         INFEASIBLE => texts::NO_ASSIGNMENT,
@@ -163,8 +155,7 @@ fn of_status(status: u8) -> &'static [u8]
 /// Of the end of a job where nothing was refused: of the limit that ended its search, and where none did, of its
 /// status.
 pub(crate) fn of_end(status: u8, reason: Option<Reason>) -> &'static [u8]
-    ensures words { result.now ≡ phrase_of_end status reason }
-    ensures phrase { IsTrue (is_phrase result.now) }
+    ensures { result.now ≡ phrase_of_end status reason }
 {
     match reason {
         Some(reason) => of_reason(reason),

@@ -1,6 +1,7 @@
 //! What is to be said of a job's end.
 
 ghost use Rattle.std.specs.Prelude.{◌≡◌, ◌≢◌, ℕ, IfSome, IsSome, IsTrue, Some, None};
+ghost use Rattle.auc_run.specs.Jobs.{is_large};
 ghost use Rattle.auc_run.specs.declared.command.Job.{Job};
 ghost use Rattle.auc_messages.specs.Forms.{phrase_at};
 ghost use Rattle.auc_messages.specs.Phrases.{phrase_of_end, phrase_of_refusal};
@@ -30,13 +31,13 @@ pub struct Remark {
 /// What is to be said of a refusal.
 fn remark_of_refusal(job: &Job, refusal: Refusal) -> Remark
     ensures is { (status : ℕ) → IsRemarkOn job.now status (Some refusal) result }
-    ensures words { result.phrase.now ≡ phrase_of_refusal refusal }
-    ensures phrase { IsTrue (is_phrase result.phrase.now) }
+    ensures words { result.phrase.now ≡ phrase_of_refusal (is_large job.now) refusal }
 {
+    let large = job.is_large();
     Remark {
         subject: subject_of(job, refusal),
-        spot: spot_of(refusal),
-        phrase: of_refusal(refusal),
+        spot: spot_of(large, refusal),
+        phrase: of_refusal(large, refusal),
     }
 }
 
@@ -56,7 +57,6 @@ fn subject_of_status(status: u8) -> Subject
 fn remark_of_end(status: u8, reason: Option<Reason>) -> Remark
     ensures is { (job : Job) → IsRemarkOn job status None result }
     ensures words { result.phrase.now ≡ phrase_of_end status reason }
-    ensures phrase { IsTrue (is_phrase result.phrase.now) }
 {
     Remark {
         subject: subject_of_status(status),
@@ -96,7 +96,7 @@ pub fn remark_of(job: &Job, ending: Ending) -> Option<Remark>
     ensures is { IfSome result (IsRemark job.now ending) }
     // Its words are those of the refusal that is said; where none is, of the limit that ended the search; and without
     // one, of the status.
-    ensures words { IfSome result (HasWords ending) }
+    ensures words { IfSome result (HasWords job.now ending) }
     // They say something, on one line.
     ensures phrase { IfSome result (λ remark. IsTrue (is_phrase remark.phrase.now)) }
 {
@@ -117,7 +117,7 @@ pub fn remark_at(job: &Job, ending: Ending, place: &Option<Place>) -> Option<Rem
     ensures told { ending.status ≢ 0 → IsSome result }
     ensures is { IfSome result (IsRemark job.now ending) }
     // Its words are those of the form that the place shows, and where it shows none, as of the refusal or the status.
-    ensures words { IfSome result (λ remark. remark.phrase.now ≡ phrase_at ending place.now) }
+    ensures words { IfSome result (λ remark. remark.phrase.now ≡ phrase_at job.now ending place.now) }
     ensures phrase { IfSome result (λ remark. IsTrue (is_phrase remark.phrase.now)) }
 {
     let remark = remark_of(job, ending)?;

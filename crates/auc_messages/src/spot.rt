@@ -1,12 +1,13 @@
 //! Which input a refusal is about, and where in it.
 
 ghost use Rattle.std.specs.Prelude.{◌≡◌};
+ghost use Rattle.auc_run.specs.Problems.{arcs_limit};
 ghost use Rattle.auc_messages.specs.Spots.{last_of, spot_in_claim, spot_in_problem, spot_in_script, spot_of};
 ghost use Rattle.auc_messages.specs.Spots.{subject_of, token_of_arc};
 
 use auc_cert::CertTextError;
 use auc_claim::{CertRefused, StartError};
-use auc_graph::{ReadError, TEXT_ARCS, TEXT_PERSONS};
+use auc_graph::{MOST_ARCS, ReadError, TEXT_ARCS};
 use auc_run::{Job, Refusal, ScriptError};
 
 /// Which input of a job.
@@ -53,13 +54,20 @@ fn token_of_arc(arc: u64, field: u64) -> Spot
     Spot::Token(arc.saturating_mul(3).saturating_add(field))
 }
 
-fn spot_in_problem(error: ReadError) -> Spot
-    ensures { result ≡ spot_in_problem error }
+/// The most arcs of a problem, by whether it may be large.
+fn most_arcs(large: bool) -> u32
+    ensures { result ≡ arcs_limit large }
+{
+    if large { MOST_ARCS } else { TEXT_ARCS }
+}
+
+fn spot_in_problem(large: bool, error: ReadError) -> Spot
+    ensures { result ≡ spot_in_problem large error }
 {
     match error {
         ReadError::BadNumber { token } => Spot::Token(token),
         ReadError::CountRange | ReadError::TooFewObjects => Spot::Token(0),
-        ReadError::TooManyArcs => token_of_arc(TEXT_ARCS as u64, 1),
+        ReadError::TooManyArcs => token_of_arc(most_arcs(large) as u64, 1),
         ReadError::PersonRange { arc } => token_of_arc(arc, 1),
         ReadError::ObjectRange { arc } => token_of_arc(arc, 2),
         ReadError::CostRange { arc } => token_of_arc(arc, 3),
@@ -97,12 +105,12 @@ fn spot_in_script(error: ScriptError) -> Spot
     }
 }
 
-/// The place in its input that a refusal is about.
-pub(crate) fn spot_of(refusal: Refusal) -> Spot
-    ensures { result ≡ spot_of refusal }
+/// The place in its input that a refusal is about, by whether the problem may be large.
+pub(crate) fn spot_of(large: bool, refusal: Refusal) -> Spot
+    ensures { result ≡ spot_of large refusal }
 {
     match refusal {
-        Refusal::NoProblem(error) => spot_in_problem(error),
+        Refusal::NoProblem(error) => spot_in_problem(large, error),
         Refusal::NoCertificate(CertTextError::Line { line }) => Spot::Line(line),
         Refusal::Invalid(error) => spot_in_claim(error),
         Refusal::NoStart(StartError::TooHigh { object }) => Spot::Object(object as u64),

@@ -16,13 +16,19 @@ pub(crate) const BAD_NUMBER: &[u8] =
     b"this is no whole number; write persons, objects and costs as whole numbers with white space between them";
 
 pub(crate) const COUNT_RANGE: &[u8] =
-    b"a problem begins with its number of persons, from 1 to 10000; put it in front of the arcs";
+    b"a problem begins with its number of persons, from 1 to 10000, with --large to 4194304; put it in front of the arcs";
+
+pub(crate) const LARGE_COUNT_RANGE: &[u8] =
+    b"a problem begins with its number of persons, from 1 to 4194304; put it in front of the arcs";
 
 pub(crate) const TOO_FEW_OBJECTS: &[u8] =
     b"there are more persons than objects; give --objects the number of objects, at least that of the persons";
 
 pub(crate) const TOO_MANY_ARCS: &[u8] =
-    b"a problem has at most 33554432 arcs; leave out this one and those after it";
+    b"a problem has at most 33554432 arcs, with --large 268435456; leave out this one and those after it";
+
+pub(crate) const LARGE_TOO_MANY_ARCS: &[u8] =
+    b"a problem has at most 268435456 arcs; leave out this one and those after it";
 
 pub(crate) const PERSON_RANGE: &[u8] =
     b"the problem has no such person; persons are numbered from 1 to the number that the problem begins with";

@@ -5,6 +5,7 @@ use Rattle.auc_mail.specs.declared.call.Reply.{Reply}
 use Rattle.auc_answers.specs.declared.answer.Answer.{Answer}
 use Rattle.auc_run.specs.declared.command.Job.{Job}
 use Rattle.auc_run.specs.declared.command.Job.TheVariants.{Check, Hall, Mail}
+use Rattle.auc_run.specs.declared.command.Sizes.{Sizes}
 use Rattle.auc_run.specs.declared.command.SolveNumbers.{SolveNumbers}
 use Rattle.auc_run.specs.declared.found.Found.{Found}
 use Rattle.auc_run.specs.declared.refusal.Refusal.{Refusal}
@@ -24,11 +25,11 @@ module _ (w : Watched) (a b : Option (List ℕ)) where
   pub solved : (n : SolveNumbers) (answer : Result Answer Refusal) → IsSolvingIn w n a b answer → IsOutcome w (solve_by n) a b (reported Solved answer)
   solved n answer h = (h.0, h.1, h.2, h.3, (answer, h.4, refl))
 
-  pub judged : (objects : ℕ) (verdict : Result Valid Refusal) → IsVerdict objects a b verdict → IsOutcome w (Check objects) a b (reported Judged verdict)
-  judged objects verdict h = (h.0, h.1, h.2, h.3, (verdict, h.4, refl))
+  pub judged : (sizes : Sizes) (verdict : Result Valid Refusal) → IsVerdict sizes a b verdict → IsOutcome w (Check sizes.objects sizes.large) a b (reported Judged verdict)
+  judged sizes verdict h = (h.0, h.1, h.2, h.3, (verdict, h.4, refl))
 
-  pub completed : (objects : ℕ) (found : Result Found Refusal) → IsFoundIn objects a found → IsOutcome w (Hall objects) a b (reported Completed found)
-  completed objects found h = (h.0, known b, h.1, are_known b, (found, h.2, refl))
+  pub completed : (sizes : Sizes) (found : Result Found Refusal) → IsFoundIn sizes a found → IsOutcome w (Hall sizes.objects sizes.large) a b (reported Completed found)
+  completed sizes found h = (h.0, known b, h.1, are_known b, (found, h.2, refl))
 
   pub replied : (replies : Result (List (Reply ℤ)) Refusal) → AreReplies a replies → IsOutcome w Mail a b (reported Replied replies)
   replied replies h = (h.0, known b, h.1, are_known b, (replies, h.2, refl))

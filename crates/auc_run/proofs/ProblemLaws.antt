@@ -4,18 +4,19 @@ use Rattle.std.specs.Prelude.{IfSome, IsErrAnd, replicate}
 use Rattle.std.specs.Io.KnownBytes.{Consumes, IsAtEnd}
 use Rattle.std.proofs.KnownBytes.{Consumes-whole}
 use Rattle.std.proofs.lemmas.List.{length-append, length-replicate}
-use Rattle.auc_graph.specs.declared.limits.TheConstants.{MOST_READS, TEXT_ARCS, TEXT_PERSONS}
+use Rattle.auc_graph.specs.declared.limits.TheConstants.{MOST_READS}
 use Rattle.auc_graph.specs.declared.read_error.ReadError.{ReadError}
 use Rattle.auc_graph.specs.declared.read_error.ReadError.TheVariants.{Empty, BadNumber, CountRange, TooManyArcs, PersonRange, ObjectRange, CostRange, Cut, NoMemory, ReadFault, TooManyReads, TooFewObjects}
 use Rattle.auc_graph.specs.declared.reading.ReadLimits.{ReadLimits}
 use Rattle.auc_graph.specs.Problem.{Problem}
 use Rattle.auc_graph.specs.Reading.{reading}
 use Rattle.auc_graph.specs.Pieces.{IsRead}
+use Rattle.auc_run.specs.declared.command.Sizes.{Sizes}
 use Rattle.auc_run.specs.declared.input.ReadFault.{ReadFault as InputFault}
 use Rattle.auc_run.specs.declared.input.ReadFault.TheVariants.{Failed, TooManyReads as TooManyInputReads, NoMemory as NoMemoryToRead}
 use Rattle.auc_run.specs.declared.refusal.Refusal.{Refusal}
 use Rattle.auc_run.specs.declared.refusal.Refusal.TheVariants.{NoProblem}
-use Rattle.auc_run.specs.Problems.{AreKnown, BearOutInput, IsProblemIn, ReadsAsProblem}
+use Rattle.auc_run.specs.Problems.{AreKnown, AreLimitsOf, BearOutInput, IsProblemIn, ReadsAsProblem, arcs_limit, file_reading}
 
 -- the known bytes, or none
 abbrev pub known : Option (List ℕ) → List ℕ
@@ -32,12 +33,12 @@ many None new text n c le = (text, tt, le)
 many (Some xs) None text n c le = absurd c
 many (Some xs) (Some ys) text n c le = (xs, refl, omega (arith, ap length c, length-append text ys, le))
 
-module _ (limits : ReadLimits) (old new : Option (List ℕ)) (text : List ℕ) (persons_is : limits.persons ≡ TEXT_PERSONS) (arcs_is : limits.arcs ≡ TEXT_ARCS) (reads_is : limits.reads ≡ MOST_READS) (objects : ℕ) (objects_is : limits.objects ≡ objects) (taken : Consumes old new text) where
+module _ (limits : ReadLimits) (old new : Option (List ℕ)) (text : List ℕ) (sizes : Sizes) (are : AreLimitsOf sizes limits) (taken : Consumes old new text) where
   -- at the end the whole file was taken
-  whole : (answer : Result Problem ReadError) → IsAtEnd new × (reading limits.persons limits.arcs limits.objects text ≡ answer) → (file : List ℕ) × AreKnown old file × (reading TEXT_PERSONS TEXT_ARCS objects file ≡ answer)
-  whole answer h = (text, Consumes-whole old new text (λ xs. text ≡ xs) taken h.0 refl, ap (λ (k : ℕ). reading k TEXT_ARCS objects text) (sym persons_is) ∙ ap (λ (n : ℕ). reading limits.persons n objects text) (sym arcs_is) ∙ ap (λ (m : ℕ). reading limits.persons limits.arcs m text) (sym objects_is) ∙ h.1)
+  whole : (answer : Result Problem ReadError) → IsAtEnd new × (reading limits.persons limits.arcs limits.objects text ≡ answer) → (file : List ℕ) × AreKnown old file × (file_reading sizes file ≡ answer)
+  whole answer h = (text, Consumes-whole old new text (λ xs. text ≡ xs) taken h.0 refl, ap (λ (k : ℕ). reading k (arcs_limit sizes.large) sizes.objects text) (sym are.persons) ∙ ap (λ (n : ℕ). reading limits.persons n sizes.objects text) (sym are.arcs) ∙ ap (λ (m : ℕ). reading limits.persons limits.arcs m text) (sym are.objects) ∙ h.1)
 
-  pub read_in : (answer : Result Problem ReadError) → IsRead limits new text answer → (file : List ℕ) × AreKnown old file × ReadsAsProblem objects file answer
+  pub read_in : (answer : Result Problem ReadError) → IsRead limits new text answer → (file : List ℕ) × AreKnown old file × ReadsAsProblem sizes file answer
   read_in (Ok p) h = whole (Ok p) h
   read_in (Err Empty) h = whole (Err Empty) h
   read_in (Err (BadNumber token)) h = whole (Err (BadNumber token)) h
@@ -50,12 +51,12 @@ module _ (limits : ReadLimits) (old new : Option (List ℕ)) (text : List ℕ) (
   read_in (Err TooFewObjects) h = whole (Err TooFewObjects) h
   read_in (Err NoMemory) h = (known old, are_known old, tt)
   read_in (Err ReadFault) h = (known old, are_known old, tt)
-  read_in (Err TooManyReads) h = many old new text MOST_READS taken (omega (arith, h, reads_is))
+  read_in (Err TooManyReads) h = many old new text MOST_READS taken (omega (arith, h, are.reads))
 
 -- a refusal that is this fault
-pub refused_in : (objects : ℕ) (reader : Option (List ℕ)) (r : Result Problem Refusal) (e : ReadError) → IsErrAnd r (λ x. x ≡ NoProblem e) → (file : List ℕ) × AreKnown reader file × ReadsAsProblem objects file (Err e) → IsProblemIn objects reader r
-refused_in objects reader (Ok x) e p h = absurd p
-refused_in objects reader (Err x) e p h = subst (λ (y : Refusal). IsProblemIn objects reader (Err y)) (sym p) h
+pub refused_in : (sizes : Sizes) (reader : Option (List ℕ)) (r : Result Problem Refusal) (e : ReadError) → IsErrAnd r (λ x. x ≡ NoProblem e) → (file : List ℕ) × AreKnown reader file × ReadsAsProblem sizes file (Err e) → IsProblemIn sizes reader r
+refused_in sizes reader (Ok x) e p h = absurd p
+refused_in sizes reader (Err x) e p h = subst (λ (y : Refusal). IsProblemIn sizes reader (Err y)) (sym p) h
 
 -- ---- an input that is read whole
 

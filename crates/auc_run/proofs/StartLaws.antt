@@ -19,49 +19,50 @@ use Rattle.auc_threads.specs.Solved.{IsSolvedBy, IsThreadAnswer}
 use Rattle.auc_answers.specs.Answers.{IsAnswer}
 use Rattle.auc_direct.specs.Endings.{IsLimitedFrom, IsLimitedUnless}
 use Rattle.auc_world.specs.Chain.{IsOfRun}
+use Rattle.auc_run.specs.declared.command.Sizes.{Sizes}
 use Rattle.auc_run.specs.declared.command.SolveNumbers.{SolveNumbers}
 use Rattle.auc_run.specs.Solutions.{BearOutMessages, BearOutSolved, BearOutThreads, IsDirectIn, IsHeeded, IsLimitedOr, IsSolvedByThreadsIn, IsSolvedIn, Watched, limits_of, thread_limits_of}
 use Rattle.auc_run.specs.Starts.{AnswersFrom, BearOutFrom, BearOutNoStart, BearOutSolving, BearOutStartError, IsSolvedFromIn, IsSolvingIn, IsStartIn, MayLackThreads, MessagesFrom, start_for}
-use Rattle.auc_run.specs.Verdicts.{IsClaimOf}
+use Rattle.auc_run.specs.Claims.{IsClaimFor}
 use Rattle.auc_run.proofs.ProblemLaws.{known, are_known, unread}
 
 -- ---- reading
 
 -- no start, for this reason
-not_started : (direct : Bool) (objects : ℕ) (a b : Option (List ℕ)) (r : Result Started Refusal) (e : Refusal) → IsErrAnd r (λ x. x ≡ e) → IsStartIn direct objects a b (Err e) → IsStartIn direct objects a b r
-not_started direct objects a b (Ok s) e p h = absurd p
-not_started direct objects a b (Err x) e p h = subst (λ (y : Refusal). IsStartIn direct objects a b (Err y)) (sym p) h
+not_started : (direct : Bool) (sizes : Sizes) (a b : Option (List ℕ)) (r : Result Started Refusal) (e : Refusal) → IsErrAnd r (λ x. x ≡ e) → IsStartIn direct sizes a b (Err e) → IsStartIn direct sizes a b r
+not_started direct sizes a b (Ok s) e p h = absurd p
+not_started direct sizes a b (Err x) e p h = subst (λ (y : Refusal). IsStartIn direct sizes a b (Err y)) (sym p) h
 
 -- no problem was read
-no_problem : (direct : Bool) (objects : ℕ) (a b : Option (List ℕ)) (e : Refusal) → IsProblemIn objects a (Err e) → e ≢ NoMemoryForJob → IsStartIn direct objects a b (Err e)
-no_problem direct objects a b (NotRead fault) h other = absurd h.2
-no_problem direct objects a b (NoProblem error) h other = (h.0, known b, h.1, are_known b, h.2)
-no_problem direct objects a b (NoCertificate error) h other = absurd h.2
-no_problem direct objects a b (Invalid error) h other = absurd h.2
-no_problem direct objects a b (NoStart error) h other = absurd h.2
-no_problem direct objects a b (NoScript error) h other = absurd h.2
-no_problem direct objects a b NoMemoryForJob h other = absurd (other refl)
-no_problem direct objects a b NoThreads h other = absurd h.2
+no_problem : (direct : Bool) (sizes : Sizes) (a b : Option (List ℕ)) (e : Refusal) → IsProblemIn sizes a (Err e) → e ≢ NoMemoryForJob → IsStartIn direct sizes a b (Err e)
+no_problem direct sizes a b (NotRead fault) h other = absurd h.2
+no_problem direct sizes a b (NoProblem error) h other = (h.0, known b, h.1, are_known b, h.2)
+no_problem direct sizes a b (NoCertificate error) h other = absurd h.2
+no_problem direct sizes a b (Invalid error) h other = absurd h.2
+no_problem direct sizes a b (NoStart error) h other = absurd h.2
+no_problem direct sizes a b (NoScript error) h other = absurd h.2
+no_problem direct sizes a b NoMemoryForJob h other = absurd (other refl)
+no_problem direct sizes a b NoThreads h other = absurd h.2
 
-pub problem_refused : (direct : Bool) (objects : ℕ) (a b : Option (List ℕ)) (r : Result Started Refusal) (e : Refusal) → IsProblemIn objects a (Err e) → e ≢ NoMemoryForJob → IsErrAnd r (λ x. x ≡ e) → IsStartIn direct objects a b r
-problem_refused direct objects a b r e h other p = not_started direct objects a b r e p (no_problem direct objects a b e h other)
+pub problem_refused : (direct : Bool) (sizes : Sizes) (a b : Option (List ℕ)) (r : Result Started Refusal) (e : Refusal) → IsProblemIn sizes a (Err e) → e ≢ NoMemoryForJob → IsErrAnd r (λ x. x ≡ e) → IsStartIn direct sizes a b r
+problem_refused direct sizes a b r e h other p = not_started direct sizes a b r e p (no_problem direct sizes a b e h other)
 
 -- the problem was read, and the certificate was not
-pub input_fails : (direct : Bool) (objects : ℕ) (a b : Option (List ℕ)) (r : Result Started Refusal) (problem : Problem) (e : ReadFault) → IsProblemIn objects a (Ok problem) → (e ≡ TooManyReads → IfSome b (λ bytes. MOST_READS ≤ length bytes))
-    → IsErrAnd r (λ x. x ≡ NotRead e) → IsStartIn direct objects a b r
-input_fails direct objects a b r problem e h many p = let cert = unread b e many in not_started direct objects a b r (NotRead e) p (h.0, cert.0, h.1, cert.1, (problem, h.2, cert.2))
+pub input_fails : (direct : Bool) (sizes : Sizes) (a b : Option (List ℕ)) (r : Result Started Refusal) (problem : Problem) (e : ReadFault) → IsProblemIn sizes a (Ok problem) → (e ≡ TooManyReads → IfSome b (λ bytes. MOST_READS ≤ length bytes))
+    → IsErrAnd r (λ x. x ≡ NotRead e) → IsStartIn direct sizes a b r
+input_fails direct sizes a b r problem e h many p = let cert = unread b e many in not_started direct sizes a b r (NotRead e) p (h.0, cert.0, h.1, cert.1, (problem, h.2, cert.2))
 
 -- both were read, and the prices can't start a solve
-no_prices : (direct : Bool) (objects : ℕ) (file cert : List ℕ) (p : Problem) (claim : CertParts) (e : StartError) → IsProblemOf objects file p → IsClaimOf cert claim → (e ≢ NoMemoryToStart → Err e ≡ start_for direct p claim) → BearOutStartError direct objects file cert e
-no_prices direct objects file cert p claim NotSquare a b is = record { p = p; claim = claim; problem = a; certificate = b; error_is = sym (is (λ e. cc)) }
-no_prices direct objects file cert p claim NoPrices a b is = record { p = p; claim = claim; problem = a; certificate = b; error_is = sym (is (λ e. cc)) }
-no_prices direct objects file cert p claim OtherSize a b is = record { p = p; claim = claim; problem = a; certificate = b; error_is = sym (is (λ e. cc)) }
-no_prices direct objects file cert p claim (TooHigh object) a b is = record { p = p; claim = claim; problem = a; certificate = b; error_is = sym (is (λ e. cc)) }
-no_prices direct objects file cert p claim NoMemoryToStart a b is = tt
+no_prices : (direct : Bool) (sizes : Sizes) (file cert : List ℕ) (p : Problem) (claim : CertParts) (e : StartError) → IsProblemOf sizes file p → IsClaimFor sizes.large cert claim → (e ≢ NoMemoryToStart → Err e ≡ start_for direct p claim) → BearOutStartError direct sizes file cert e
+no_prices direct sizes file cert p claim NotSquare a b is = record { p = p; claim = claim; problem = a; certificate = b; error_is = sym (is (λ e. cc)) }
+no_prices direct sizes file cert p claim NoPrices a b is = record { p = p; claim = claim; problem = a; certificate = b; error_is = sym (is (λ e. cc)) }
+no_prices direct sizes file cert p claim OtherSize a b is = record { p = p; claim = claim; problem = a; certificate = b; error_is = sym (is (λ e. cc)) }
+no_prices direct sizes file cert p claim (TooHigh object) a b is = record { p = p; claim = claim; problem = a; certificate = b; error_is = sym (is (λ e. cc)) }
+no_prices direct sizes file cert p claim NoMemoryToStart a b is = tt
 
-pub prices_refused : (direct : Bool) (objects : ℕ) (a b : Option (List ℕ)) (r : Result Started Refusal) (p : Problem) (bytes : List ℕ) (claim : CertParts) (e : StartError) → IsProblemIn objects a (Ok p) → AreKnown b bytes → IsClaimOf bytes claim
-    → (e ≢ NoMemoryToStart → Err e ≡ start_for direct p claim) → IsErrAnd r (λ x. x ≡ NoStart e) → IsStartIn direct objects a b r
-prices_refused direct objects a b r p bytes claim e h k spells is refused = not_started direct objects a b r (NoStart e) refused (h.0, bytes, h.1, k, no_prices direct objects h.0 bytes p claim e h.2 spells is)
+pub prices_refused : (direct : Bool) (sizes : Sizes) (a b : Option (List ℕ)) (r : Result Started Refusal) (p : Problem) (bytes : List ℕ) (claim : CertParts) (e : StartError) → IsProblemIn sizes a (Ok p) → AreKnown b bytes → IsClaimFor sizes.large bytes claim
+    → (e ≢ NoMemoryToStart → Err e ≡ start_for direct p claim) → IsErrAnd r (λ x. x ≡ NoStart e) → IsStartIn direct sizes a b r
+prices_refused direct sizes a b r p bytes claim e h k spells is refused = not_started direct sizes a b r (NoStart e) refused (h.0, bytes, h.1, k, no_prices direct sizes h.0 bytes p claim e h.2 spells is)
 
 -- ---- solving
 
@@ -75,10 +76,10 @@ is_direct true e = refl
 is_direct false e = absurd (false≢true (sym e))
 
 pub answered : (w : Watched) (n : SolveNumbers) (a b : Option (List ℕ)) (s : Started) (answer : Answer)
-    → IsStartIn n.direct n.objects a b (Ok s) → AnswersFrom n.direct w n s.problem s.prices.items answer → IsSolvedFromIn w n a b (Ok answer)
+    → IsStartIn n.direct n.sizes a b (Ok s) → AnswersFrom n.direct w n s.problem s.prices.items answer → IsSolvedFromIn w n a b (Ok answer)
 answered w n a b s answer h is = (h.0, h.1, h.2, h.3, (s.problem, s.prices.items, h.4, is))
 
-no_start_borne : (w : Watched) (n : SolveNumbers) (file cert : List ℕ) (e : Refusal) → BearOutNoStart n.direct n.objects file cert e → BearOutFrom w n file cert (Err e)
+no_start_borne : (w : Watched) (n : SolveNumbers) (file cert : List ℕ) (e : Refusal) → BearOutNoStart n.direct n.sizes file cert e → BearOutFrom w n file cert (Err e)
 no_start_borne w n file cert (NotRead fault) h = h
 no_start_borne w n file cert (NoProblem error) h = h
 no_start_borne w n file cert (NoCertificate error) h = h
@@ -88,7 +89,7 @@ no_start_borne w n file cert (NoScript error) h = h
 no_start_borne w n file cert NoMemoryForJob h = absurd h
 no_start_borne w n file cert NoThreads h = absurd h
 
-pub unstarted : (w : Watched) (n : SolveNumbers) (a b : Option (List ℕ)) (r : Result Answer Refusal) (e : Refusal) → IsStartIn n.direct n.objects a b (Err e) → IsErrAnd r (λ x. x ≡ e) → IsSolvedFromIn w n a b r
+pub unstarted : (w : Watched) (n : SolveNumbers) (a b : Option (List ℕ)) (r : Result Answer Refusal) (e : Refusal) → IsStartIn n.direct n.sizes a b (Err e) → IsErrAnd r (λ x. x ≡ e) → IsSolvedFromIn w n a b r
 unstarted w n a b (Ok x) e h p = absurd p
 unstarted w n a b (Err x) e h p =
     subst (λ (y : Refusal). IsSolvedFromIn w n a b (Err y)) (sym p) (h.0, h.1, h.2, h.3, no_start_borne w n h.0 h.1 e h.4)

@@ -3,6 +3,7 @@ use Rattle.std.proofs.Common.{◌≡◌, ◌≢◌, ◌≤◌, ℕ, List, length
 use Rattle.std.specs.Prelude.{IfSome, IsErrAnd}
 use Rattle.auc_graph.specs.declared.limits.TheConstants.{MOST_READS}
 use Rattle.auc_graph.specs.Problem.{Problem}
+use Rattle.auc_run.specs.declared.command.Sizes.{Sizes}
 use Rattle.auc_run.specs.declared.input.ReadFault.{ReadFault}
 use Rattle.auc_run.specs.declared.input.ReadFault.TheVariants.{TooManyReads}
 use Rattle.auc_run.specs.declared.refusal.Refusal.{Refusal}
@@ -13,25 +14,25 @@ use Rattle.auc_run.specs.Problems.{IsProblemIn}
 use Rattle.auc_run.proofs.ProblemLaws.{known, are_known, unread}
 
 -- a verdict that is an error
-turned : (objects : ℕ) (a b : Option (List ℕ)) (r : Result Valid Refusal) (e : Refusal) → IsErrAnd r (λ x. x ≡ e) → IsVerdict objects a b (Err e) → IsVerdict objects a b r
-turned objects a b (Ok z) e p v = absurd p
-turned objects a b (Err x) e p v = subst (λ (y : Refusal). IsVerdict objects a b (Err y)) (sym p) v
+turned : (sizes : Sizes) (a b : Option (List ℕ)) (r : Result Valid Refusal) (e : Refusal) → IsErrAnd r (λ x. x ≡ e) → IsVerdict sizes a b (Err e) → IsVerdict sizes a b r
+turned sizes a b (Ok z) e p v = absurd p
+turned sizes a b (Err x) e p v = subst (λ (y : Refusal). IsVerdict sizes a b (Err y)) (sym p) v
 
 -- the problem was read, and the certificate was not
-pub input_fails : (objects : ℕ) (a b : Option (List ℕ)) (r : Result Valid Refusal) (problem : Problem) (e : ReadFault) → IsProblemIn objects a (Ok problem) → (e ≡ TooManyReads → IfSome b (λ bytes. MOST_READS ≤ length bytes))
-    → IsErrAnd r (λ x. x ≡ NotRead e) → IsVerdict objects a b r
-input_fails objects a b r problem e h many p = let cert = unread b e many in turned objects a b r (NotRead e) p (h.0, cert.0, h.1, cert.1, (problem, h.2, cert.2))
+pub input_fails : (sizes : Sizes) (a b : Option (List ℕ)) (r : Result Valid Refusal) (problem : Problem) (e : ReadFault) → IsProblemIn sizes a (Ok problem) → (e ≡ TooManyReads → IfSome b (λ bytes. MOST_READS ≤ length bytes))
+    → IsErrAnd r (λ x. x ≡ NotRead e) → IsVerdict sizes a b r
+input_fails sizes a b r problem e h many p = let cert = unread b e many in turned sizes a b r (NotRead e) p (h.0, cert.0, h.1, cert.1, (problem, h.2, cert.2))
 
 -- no problem was read, and the certificate was left unread
-not_read : (objects : ℕ) (a b : Option (List ℕ)) (e : Refusal) → IsProblemIn objects a (Err e) → e ≢ NoMemoryForJob → IsVerdict objects a b (Err e)
-not_read objects a b (NotRead fault) h other = absurd h.2
-not_read objects a b (NoProblem error) h other = (h.0, known b, h.1, are_known b, h.2)
-not_read objects a b (NoCertificate error) h other = absurd h.2
-not_read objects a b (Invalid error) h other = absurd h.2
-not_read objects a b (NoStart error) h other = absurd h.2
-not_read objects a b (NoScript error) h other = absurd h.2
-not_read objects a b NoMemoryForJob h other = absurd (other refl)
-not_read objects a b NoThreads h other = absurd h.2
+not_read : (sizes : Sizes) (a b : Option (List ℕ)) (e : Refusal) → IsProblemIn sizes a (Err e) → e ≢ NoMemoryForJob → IsVerdict sizes a b (Err e)
+not_read sizes a b (NotRead fault) h other = absurd h.2
+not_read sizes a b (NoProblem error) h other = (h.0, known b, h.1, are_known b, h.2)
+not_read sizes a b (NoCertificate error) h other = absurd h.2
+not_read sizes a b (Invalid error) h other = absurd h.2
+not_read sizes a b (NoStart error) h other = absurd h.2
+not_read sizes a b (NoScript error) h other = absurd h.2
+not_read sizes a b NoMemoryForJob h other = absurd (other refl)
+not_read sizes a b NoThreads h other = absurd h.2
 
-pub not_judged : (objects : ℕ) (a b : Option (List ℕ)) (r : Result Valid Refusal) (e : Refusal) → IsProblemIn objects a (Err e) → e ≢ NoMemoryForJob → IsErrAnd r (λ x. x ≡ e) → IsVerdict objects a b r
-not_judged objects a b r e h other p = turned objects a b r e p (not_read objects a b e h other)
+pub not_judged : (sizes : Sizes) (a b : Option (List ℕ)) (r : Result Valid Refusal) (e : Refusal) → IsProblemIn sizes a (Err e) → e ≢ NoMemoryForJob → IsErrAnd r (λ x. x ≡ e) → IsVerdict sizes a b r
+not_judged sizes a b r e h other p = turned sizes a b r e p (not_read sizes a b e h other)

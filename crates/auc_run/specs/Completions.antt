@@ -7,6 +7,7 @@ use Rattle.auc_graph.specs.Assignment.{IsAssignment}
 use Rattle.auc_cert.specs.Text.{text, assign_line, numbered, joined}
 use Rattle.auc_claim.specs.Claim.{chosen}
 use Rattle.auc_answers.specs.Answers.{IsHallCertificate}
+use Rattle.auc_run.specs.declared.command.Sizes.{Sizes}
 use Rattle.auc_run.specs.declared.found.Found.{Found}
 use Rattle.auc_run.specs.declared.found.Found.TheVariants.{Full, Hall}
 use Rattle.auc_run.specs.declared.refusal.Refusal.{Refusal}
@@ -18,13 +19,13 @@ IsFound p (Full choice) = IsAssignment p (chosen 0 choice)
 IsFound p (Hall cert) = IsHallCertificate p cert
 
 -- the bytes of a problem bear out what was found, or the refusal
-abbrev pub BearOutFound : ℕ → List ℕ → Result Found Refusal → Type 0
-BearOutFound objects file (Ok found) = (p : Problem) × IsProblemOf objects file p × IsFound p found
-BearOutFound objects file (Err refusal) = BearOutRefusal objects file refusal
+abbrev pub BearOutFound : Sizes → List ℕ → Result Found Refusal → Type 0
+BearOutFound sizes file (Ok found) = (p : Problem) × IsProblemOf sizes file p × IsFound p found
+BearOutFound sizes file (Err refusal) = BearOutRefusal sizes file refusal
 
 -- what was found in the problem that a reader has
-abbrev pub IsFoundIn : ℕ → Option (List ℕ) → Result Found Refusal → Type 0
-IsFoundIn objects reader found = (file : List ℕ) × AreKnown reader file × BearOutFound objects file found
+abbrev pub IsFoundIn : Sizes → Option (List ℕ) → Result Found Refusal → Type 0
+IsFoundIn sizes reader found = (file : List ℕ) × AreKnown reader file × BearOutFound sizes file found
 
 -- no more picks than a problem can have persons
 abbrev pub IsSmall : Found → Type 0

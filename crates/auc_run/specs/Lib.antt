@@ -1,6 +1,7 @@
 -- The definitions that contracts of jobs cite.
 pub mod Lines
 pub mod Statuses
+pub mod Claims
 pub mod Verdicts
 pub mod Refusals
 pub mod Problems

@@ -13,7 +13,7 @@ use Rattle.auc_run.specs.declared.refusal.Refusal.{Refusal}
 use Rattle.auc_run.specs.declared.report.Report.{Report}
 use Rattle.auc_run.specs.declared.report.Report.TheVariants.{Solved, Judged, Completed, Replied}
 use Rattle.auc_run.specs.declared.valid.Valid.{Valid}
-use Rattle.auc_run.specs.Problems.{AreKnown}
+use Rattle.auc_run.specs.Problems.{AreKnown, sizes_with}
 use Rattle.auc_run.specs.Verdicts.{BearOut}
 use Rattle.auc_run.specs.Completions.{BearOutFound}
 use Rattle.auc_run.specs.Solutions.{Watched, onward}
@@ -30,14 +30,14 @@ reported report (Err refusal) = Err refusal
 -- certificate's claim, a full assignment or the certificate that there is none, or the replies of a run of the mail. A
 -- direct solve may be watched.
 abbrev pub BearOutJob : Watched → Job → List ℕ → List ℕ → Result Report Refusal → Type 0
-BearOutJob w (Solve workers bids audit objects from direct) file cert outcome =
+BearOutJob w (Solve workers bids audit objects from direct large) file cert outcome =
     let n : SolveNumbers =
-    record { workers = workers; bids = bids; audit = audit; objects = objects; from = from; direct = direct }
+    record { workers = workers; bids = bids; audit = audit; sizes = sizes_with objects large; from = from; direct = direct }
     in (answer : Result Answer Refusal) × BearOutSolving from direct w n file cert answer × (outcome ≡ reported Solved answer)
-BearOutJob w (Check objects) file cert outcome =
-    (verdict : Result Valid Refusal) × BearOut objects file cert verdict × (outcome ≡ reported Judged verdict)
-BearOutJob w (Hall objects) file cert outcome =
-    (found : Result Found Refusal) × BearOutFound objects file found × (outcome ≡ reported Completed found)
+BearOutJob w (Check objects large) file cert outcome =
+    (verdict : Result Valid Refusal) × BearOut (sizes_with objects large) file cert verdict × (outcome ≡ reported Judged verdict)
+BearOutJob w (Hall objects large) file cert outcome =
+    (found : Result Found Refusal) × BearOutFound (sizes_with objects large) file found × (outcome ≡ reported Completed found)
 BearOutJob w Mail file cert outcome =
     (replies : Result (List (Reply ℤ)) Refusal) × BearOutReplies file replies × (outcome ≡ reported Replied replies)
 

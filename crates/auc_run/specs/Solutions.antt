@@ -27,8 +27,8 @@ limits_of bids = record { shards = 1; bids = bids; posts = 1000000000000; audit 
 -- bids. No guard is hit.
 abbrev pub BearOutSolved : SolveNumbers → List ℕ → Result Answer Refusal → Type 0
 BearOutSolved n file (Ok answer) =
-    (p : Problem) × IsProblemOf n.objects file p × IsAnswer p answer × IsOfRun p (limits_of n.bids) None answer
-BearOutSolved n file (Err refusal) = BearOutRefusal n.objects file refusal
+    (p : Problem) × IsProblemOf n.sizes file p × IsAnswer p answer × IsOfRun p (limits_of n.bids) None answer
+BearOutSolved n file (Err refusal) = BearOutRefusal n.sizes file refusal
 
 -- Who watches a direct solve: whether he has said no, and whether he was asked at all.
 pub record Watched : Type 0 where
@@ -55,8 +55,8 @@ IsHeeded w p answer Holds = IsAsked w.asked p answer × IsLimitedOr w.stopped an
 -- bid more than the greatest price; or who watches has stopped it.
 abbrev pub BearOutDirect : Watched → SolveNumbers → List ℕ → Result Answer Refusal → Type 0
 BearOutDirect w n file (Ok answer) =
-    (p : Problem) × IsProblemOf n.objects file p × IsAnswer p answer × IsHeeded w p answer (IsLimited p n.bids (pos 0) answer)
-BearOutDirect w n file (Err refusal) = BearOutRefusal n.objects file refusal
+    (p : Problem) × IsProblemOf n.sizes file p × IsAnswer p answer × IsHeeded w p answer (IsLimited p n.bids (pos 0) answer)
+BearOutDirect w n file (Err refusal) = BearOutRefusal n.sizes file refusal
 
 -- the limits of a solve with threads: so many shards of each kind, bids, and places in each trail, and else the usual
 -- numbers
@@ -67,16 +67,16 @@ thread_limits_of n = record { shards = n.workers; bids = n.bids; posts = 1000000
 -- that was hit.
 abbrev pub BearOutThreads : SolveNumbers → List ℕ → Result Answer Refusal → Type 0
 BearOutThreads n file (Ok answer) =
-    (p : Problem) × IsProblemOf n.objects file p × IsThreadAnswer p answer
+    (p : Problem) × IsProblemOf n.sizes file p × IsThreadAnswer p answer
     × ((phases : List PhaseEnd) × IsSolvedBy p (thread_limits_of n) None phases answer)
 BearOutThreads n file (Err NoThreads) = ⊤
-BearOutThreads n file (Err (NotRead fault)) = BearOutRefusal n.objects file (NotRead fault)
-BearOutThreads n file (Err (NoProblem error)) = BearOutRefusal n.objects file (NoProblem error)
+BearOutThreads n file (Err (NotRead fault)) = BearOutRefusal n.sizes file (NotRead fault)
+BearOutThreads n file (Err (NoProblem error)) = BearOutRefusal n.sizes file (NoProblem error)
 BearOutThreads n file (Err (NoCertificate error)) = ⊥
 BearOutThreads n file (Err (Invalid error)) = ⊥
 BearOutThreads n file (Err (NoStart error)) = ⊥
 BearOutThreads n file (Err (NoScript error)) = ⊥
-BearOutThreads n file (Err NoMemory) = BearOutRefusal n.objects file NoMemory
+BearOutThreads n file (Err NoMemory) = BearOutRefusal n.sizes file NoMemory
 
 -- a solve by messages goes by threads where there are so many workers, and not 0
 abbrev pub BearOutMessages : ℕ → SolveNumbers → List ℕ → Result Answer Refusal → Type 0

@@ -7,7 +7,6 @@ use Rattle.auc_claim.specs.declared.cert.CertParts.TheVariants.{Optimal, Infeasi
 use Rattle.auc_claim.specs.declared.start_error.StartError.{StartError}
 use Rattle.auc_claim.specs.declared.start_error.StartError.TheVariants.{NotSquare, NoPrices, OtherSize, TooHigh, NoMemory as NoMemoryToStart}
 use Rattle.auc_cert.specs.declared.text_error.CertTextError.TheVariants.{Line, NoMemory as NoMemoryForText}
-use Rattle.auc_cert.specs.CertReading.{IsFirstBadLine}
 use Rattle.auc_claim.specs.Start.{high_price, start_of, start_unless}
 use Rattle.auc_answers.specs.declared.answer.Answer.{Answer}
 use Rattle.auc_answers.specs.Answers.{IsAnswer}
@@ -15,13 +14,14 @@ use Rattle.auc_world.specs.Chain.{IsOfRun}
 use Rattle.auc_direct.specs.Endings.{IsLimitedFrom}
 use Rattle.auc_threads.specs.declared.phase.PhaseEnd.{PhaseEnd}
 use Rattle.auc_threads.specs.Solved.{IsSolvedBy, IsThreadAnswer}
+use Rattle.auc_run.specs.declared.command.Sizes.{Sizes}
 use Rattle.auc_run.specs.declared.command.SolveNumbers.{SolveNumbers}
 use Rattle.auc_run.specs.declared.refusal.Refusal.{Refusal}
 use Rattle.auc_run.specs.declared.refusal.Refusal.TheVariants.{NotRead, NoProblem, NoCertificate, Invalid, NoStart, NoScript, NoMemory as NoMemoryForJob, NoThreads}
 use Rattle.auc_run.specs.declared.start.Started.{Started}
 use Rattle.auc_run.specs.Problems.{AreKnown, BearOutInput, IsProblemOf, ReadsAsProblem}
 use Rattle.auc_run.specs.Solutions.{BearOutDirect, BearOutMessages, IsHeeded, Watched, limits_of, thread_limits_of}
-use Rattle.auc_run.specs.Verdicts.{IsClaimOf}
+use Rattle.auc_run.specs.Claims.{IsBadLineFor, IsClaimFor}
 
 -- ---- the prices of a certificate
 
@@ -43,49 +43,49 @@ start_for false p claim = start_of p claim
 
 -- the problem that one file is, and the prices from which it is to be solved: those of the certificate that the other
 -- file spells
-pub record IsStartOf (direct : Bool) (objects : ℕ) (file cert : List ℕ) (p : Problem) (start : List ℤ) : Type 0 where
+pub record IsStartOf (direct : Bool) (sizes : Sizes) (file cert : List ℕ) (p : Problem) (start : List ℤ) : Type 0 where
   pub claim : CertParts
-  pub problem : IsProblemOf objects file p
-  pub certificate : IsClaimOf cert claim
+  pub problem : IsProblemOf sizes file p
+  pub certificate : IsClaimFor sizes.large cert claim
   pub prices : start_for direct p claim ≡ Ok start
 
 -- the first file is a problem, the other spells a certificate, and this is the first reason why its prices can't start
 -- a solve
-pub record IsNoStart (direct : Bool) (objects : ℕ) (file cert : List ℕ) (error : StartError) : Type 0 where
+pub record IsNoStart (direct : Bool) (sizes : Sizes) (file cert : List ℕ) (error : StartError) : Type 0 where
   pub p : Problem
   pub claim : CertParts
-  pub problem : IsProblemOf objects file p
-  pub certificate : IsClaimOf cert claim
+  pub problem : IsProblemOf sizes file p
+  pub certificate : IsClaimFor sizes.large cert claim
   pub error_is : start_for direct p claim ≡ Err error
 
-abbrev pub BearOutStartError : Bool → ℕ → List ℕ → List ℕ → StartError → Type 0
-BearOutStartError direct objects file cert NotSquare = IsNoStart direct objects file cert NotSquare
-BearOutStartError direct objects file cert NoPrices = IsNoStart direct objects file cert NoPrices
-BearOutStartError direct objects file cert OtherSize = IsNoStart direct objects file cert OtherSize
-BearOutStartError direct objects file cert (TooHigh object) = IsNoStart direct objects file cert (TooHigh object)
-BearOutStartError direct objects file cert NoMemoryToStart = ⊤
+abbrev pub BearOutStartError : Bool → Sizes → List ℕ → List ℕ → StartError → Type 0
+BearOutStartError direct sizes file cert NotSquare = IsNoStart direct sizes file cert NotSquare
+BearOutStartError direct sizes file cert NoPrices = IsNoStart direct sizes file cert NoPrices
+BearOutStartError direct sizes file cert OtherSize = IsNoStart direct sizes file cert OtherSize
+BearOutStartError direct sizes file cert (TooHigh object) = IsNoStart direct sizes file cert (TooHigh object)
+BearOutStartError direct sizes file cert NoMemoryToStart = ⊤
 
 -- The two files bear out that there is no start: the problem is judged first, then the certificate, then its prices.
-abbrev pub BearOutNoStart : Bool → ℕ → List ℕ → List ℕ → Refusal → Type 0
-BearOutNoStart direct objects file cert (NoProblem error) = ReadsAsProblem objects file (Err error)
-BearOutNoStart direct objects file cert (NotRead fault) = (p : Problem) × IsProblemOf objects file p × BearOutInput cert fault
-BearOutNoStart direct objects file cert (NoCertificate (Line k)) = (p : Problem) × IsProblemOf objects file p × IsFirstBadLine cert k
-BearOutNoStart direct objects file cert (NoCertificate NoMemoryForText) = ⊤
-BearOutNoStart direct objects file cert (NoStart error) = BearOutStartError direct objects file cert error
-BearOutNoStart direct objects file cert (Invalid error) = ⊥
-BearOutNoStart direct objects file cert (NoScript error) = ⊥
-BearOutNoStart direct objects file cert NoMemoryForJob = ⊥
-BearOutNoStart direct objects file cert NoThreads = ⊥
+abbrev pub BearOutNoStart : Bool → Sizes → List ℕ → List ℕ → Refusal → Type 0
+BearOutNoStart direct sizes file cert (NoProblem error) = ReadsAsProblem sizes file (Err error)
+BearOutNoStart direct sizes file cert (NotRead fault) = (p : Problem) × IsProblemOf sizes file p × BearOutInput cert fault
+BearOutNoStart direct sizes file cert (NoCertificate (Line k)) = (p : Problem) × IsProblemOf sizes file p × IsBadLineFor sizes.large cert k
+BearOutNoStart direct sizes file cert (NoCertificate NoMemoryForText) = ⊤
+BearOutNoStart direct sizes file cert (NoStart error) = BearOutStartError direct sizes file cert error
+BearOutNoStart direct sizes file cert (Invalid error) = ⊥
+BearOutNoStart direct sizes file cert (NoScript error) = ⊥
+BearOutNoStart direct sizes file cert NoMemoryForJob = ⊥
+BearOutNoStart direct sizes file cert NoThreads = ⊥
 
-abbrev pub BearOutStart : Bool → ℕ → List ℕ → List ℕ → Result Started Refusal → Type 0
-BearOutStart direct objects file cert (Ok s) = IsStartOf direct objects file cert s.problem s.prices.items
-BearOutStart direct objects file cert (Err refusal) = BearOutNoStart direct objects file cert refusal
+abbrev pub BearOutStart : Bool → Sizes → List ℕ → List ℕ → Result Started Refusal → Type 0
+BearOutStart direct sizes file cert (Ok s) = IsStartOf direct sizes file cert s.problem s.prices.items
+BearOutStart direct sizes file cert (Err refusal) = BearOutNoStart direct sizes file cert refusal
 
 -- a problem and a start that two readers have, or why there is none
-abbrev pub IsStartIn : Bool → ℕ → Option (List ℕ) → Option (List ℕ) → Result Started Refusal → Type 0
-IsStartIn direct objects first second started =
+abbrev pub IsStartIn : Bool → Sizes → Option (List ℕ) → Option (List ℕ) → Result Started Refusal → Type 0
+IsStartIn direct sizes first second started =
     (file : List ℕ) × (cert : List ℕ) × AreKnown first file × AreKnown second cert
-    × BearOutStart direct objects file cert started
+    × BearOutStart direct sizes file cert started
 
 -- an answer of a run by messages from these prices: by threads where there are so many workers, and not 0
 abbrev pub MessagesFrom : ℕ → SolveNumbers → Problem → List ℤ → Answer → Type 0
@@ -107,13 +107,13 @@ MayLackThreads (suc workers) = ⊤
 -- nothing is known.
 abbrev pub BearOutFrom : Watched → SolveNumbers → List ℕ → List ℕ → Result Answer Refusal → Type 0
 BearOutFrom w n file cert (Ok answer) =
-    (p : Problem) × (start : List ℤ) × IsStartOf n.direct n.objects file cert p start × AnswersFrom n.direct w n p start answer
+    (p : Problem) × (start : List ℤ) × IsStartOf n.direct n.sizes file cert p start × AnswersFrom n.direct w n p start answer
 BearOutFrom w n file cert (Err NoMemoryForJob) = ⊤
 BearOutFrom w n file cert (Err NoThreads) = MayLackThreads n.workers
-BearOutFrom w n file cert (Err (NoProblem error)) = BearOutNoStart n.direct n.objects file cert (NoProblem error)
-BearOutFrom w n file cert (Err (NotRead fault)) = BearOutNoStart n.direct n.objects file cert (NotRead fault)
-BearOutFrom w n file cert (Err (NoCertificate error)) = BearOutNoStart n.direct n.objects file cert (NoCertificate error)
-BearOutFrom w n file cert (Err (NoStart error)) = BearOutNoStart n.direct n.objects file cert (NoStart error)
+BearOutFrom w n file cert (Err (NoProblem error)) = BearOutNoStart n.direct n.sizes file cert (NoProblem error)
+BearOutFrom w n file cert (Err (NotRead fault)) = BearOutNoStart n.direct n.sizes file cert (NotRead fault)
+BearOutFrom w n file cert (Err (NoCertificate error)) = BearOutNoStart n.direct n.sizes file cert (NoCertificate error)
+BearOutFrom w n file cert (Err (NoStart error)) = BearOutNoStart n.direct n.sizes file cert (NoStart error)
 BearOutFrom w n file cert (Err (Invalid error)) = ⊥
 BearOutFrom w n file cert (Err (NoScript error)) = ⊥
 

@@ -8,19 +8,13 @@ use Rattle.auc_claim.specs.declared.cert.CertParts.TheVariants.{Optimal, Bracket
 use Rattle.auc_claim.specs.declared.refused.CertRefused.{CertRefused}
 use Rattle.auc_claim.specs.declared.refused.CertRefused.TheVariants.{NoMemory as NoMemoryToCheck}
 use Rattle.auc_cert.specs.declared.text_error.CertTextError.TheVariants.{Line, NoMemory as NoMemoryForText}
-use Rattle.auc_claim.specs.Spelled.{IsSpelled}
-use Rattle.auc_cert.specs.Text.{text}
-use Rattle.auc_cert.specs.CertReading.{IsFirstBadLine}
 use Rattle.auc_claim.specs.Claim.{fault_of, IsAllowed, IsVerdict as IsVerdictOn}
+use Rattle.auc_run.specs.Claims.{IsBadLineFor, IsClaimFor}
+use Rattle.auc_run.specs.declared.command.Sizes.{Sizes}
 use Rattle.auc_run.specs.declared.refusal.Refusal.{Refusal}
 use Rattle.auc_run.specs.declared.refusal.Refusal.TheVariants.{NotRead, NoProblem, NoCertificate, Invalid, NoStart, NoScript, NoMemory as NoMemoryForJob, NoThreads}
 use Rattle.auc_run.specs.declared.valid.Valid.{Valid}
 use Rattle.auc_run.specs.Problems.{AreKnown, BearOutInput, IsProblemOf, ReadsAsProblem}
-
--- the claim that a certificate spells
-pub record IsClaimOf (cert : List ℕ) (c : CertParts) : Type 0 where
-  pub spelled : IsSpelled c
-  pub text : cert ≡ text c
 
 -- what a claim says, in short
 abbrev pub said_by : CertParts → Valid
@@ -48,21 +42,21 @@ Judges p c (Err NoThreads) = ⊥
 
 -- The bytes of a problem and of a certificate bear a verdict out. Where a read of the certificate failed, or memory ran
 -- out, nothing is known of it; too many reads have each taken a byte of it.
-abbrev pub BearOut : ℕ → List ℕ → List ℕ → Result Valid Refusal → Type 0
-BearOut objects file cert (Ok valid) =
-    (p : Problem) × (c : CertParts) × IsProblemOf objects file p × IsClaimOf cert c × Judges p c (Ok valid)
-BearOut objects file cert (Err (Invalid error)) =
-    (p : Problem) × (c : CertParts) × IsProblemOf objects file p × IsClaimOf cert c × Judges p c (Err (Invalid error))
-BearOut objects file cert (Err (NoCertificate (Line k))) = (p : Problem) × IsProblemOf objects file p × IsFirstBadLine cert k
-BearOut objects file cert (Err (NoCertificate NoMemoryForText)) = ⊤
-BearOut objects file cert (Err (NoProblem error)) = ReadsAsProblem objects file (Err error)
-BearOut objects file cert (Err (NotRead fault)) = (p : Problem) × IsProblemOf objects file p × BearOutInput cert fault
-BearOut objects file cert (Err (NoStart error)) = ⊥
-BearOut objects file cert (Err (NoScript error)) = ⊥
-BearOut objects file cert (Err NoMemoryForJob) = ⊥
-BearOut objects file cert (Err NoThreads) = ⊥
+abbrev pub BearOut : Sizes → List ℕ → List ℕ → Result Valid Refusal → Type 0
+BearOut sizes file cert (Ok valid) =
+    (p : Problem) × (c : CertParts) × IsProblemOf sizes file p × IsClaimFor sizes.large cert c × Judges p c (Ok valid)
+BearOut sizes file cert (Err (Invalid error)) =
+    (p : Problem) × (c : CertParts) × IsProblemOf sizes file p × IsClaimFor sizes.large cert c × Judges p c (Err (Invalid error))
+BearOut sizes file cert (Err (NoCertificate (Line k))) = (p : Problem) × IsProblemOf sizes file p × IsBadLineFor sizes.large cert k
+BearOut sizes file cert (Err (NoCertificate NoMemoryForText)) = ⊤
+BearOut sizes file cert (Err (NoProblem error)) = ReadsAsProblem sizes file (Err error)
+BearOut sizes file cert (Err (NotRead fault)) = (p : Problem) × IsProblemOf sizes file p × BearOutInput cert fault
+BearOut sizes file cert (Err (NoStart error)) = ⊥
+BearOut sizes file cert (Err (NoScript error)) = ⊥
+BearOut sizes file cert (Err NoMemoryForJob) = ⊥
+BearOut sizes file cert (Err NoThreads) = ⊥
 
 -- a verdict on what two readers have
-abbrev pub IsVerdict : ℕ → Option (List ℕ) → Option (List ℕ) → Result Valid Refusal → Type 0
-IsVerdict objects first second verdict =
-    (file : List ℕ) × (cert : List ℕ) × AreKnown first file × AreKnown second cert × BearOut objects file cert verdict
+abbrev pub IsVerdict : Sizes → Option (List ℕ) → Option (List ℕ) → Result Valid Refusal → Type 0
+IsVerdict sizes first second verdict =
+    (file : List ℕ) × (cert : List ℕ) × AreKnown first file × AreKnown second cert × BearOut sizes file cert verdict

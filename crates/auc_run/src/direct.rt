@@ -1,7 +1,7 @@
 //! The job of a direct solve, and which of the two solvers does a solve without threads.
 
-ghost use Rattle.std.specs.Prelude.{◌≡◌, ◌≤◌, true, false, IfSome, IsErr};
-ghost use Rattle.auc_run.specs.Problems.{file_reading};
+ghost use Rattle.std.specs.Prelude.{◌≡◌, true, false, IfSome, IsErr};
+ghost use Rattle.auc_run.specs.Problems.{AreSizes, file_reading};
 ghost use Rattle.auc_run.specs.Solutions.{IsDirectIn, watched};
 ghost use Rattle.auc_run.specs.Starts.{IsSolvedFromIn, IsSolvingIn};
 
@@ -22,11 +22,11 @@ fn direct_answer_of<R: Read, V: Watch>(
     numbers: SolveNumbers,
     watch: &mut V,
 ) -> Result<Answer, Refusal>
-    requires { numbers.objects ≤ 20000 }
+    requires { AreSizes numbers.sizes }
     ensures { IsDirectIn (watched (V.has_stopped watch.new) (V.was_asked watch.new)) numbers
         (R.remaining reader.old) result }
 {
-    let problem = problem_of(alloc, reader, numbers.objects)?;
+    let problem = problem_of(alloc, reader, numbers.sizes)?;
     let limits = DirectLimits { bids: numbers.bids };
     let answer = solve_direct_watched(alloc, &problem, &limits, watch)?;
     Ok(answer)
@@ -40,15 +40,15 @@ fn direct_answer_from<R: Read, Q: Read, V: Watch>(
     numbers: SolveNumbers,
     watch: &mut V,
 ) -> Result<Answer, Refusal>
-    requires objects { numbers.objects ≤ 20000 }
+    requires sizes { AreSizes numbers.sizes }
     requires direct { numbers.direct ≡ true }
     ensures from { IsSolvedFromIn (watched (V.has_stopped watch.new) (V.was_asked watch.new)) numbers
         (R.remaining reader.old)
         (Q.remaining second.old) result }
-    ensures unread { IfSome (R.remaining reader.old) (λ file. IsErr (file_reading numbers.objects file)
+    ensures unread { IfSome (R.remaining reader.old) (λ file. IsErr (file_reading numbers.sizes file)
         → second.new ≡ second.old) }
 {
-    let started = started_of(alloc, reader, second, numbers.objects, true)?;
+    let started = started_of(alloc, reader, second, numbers.sizes, true)?;
     let limits = DirectLimits { bids: numbers.bids };
     let prices = started.prices.as_slice();
     let answer = solve_direct_watched_from(alloc, &started.problem, &limits, prices, watch)?;
@@ -64,12 +64,12 @@ pub(crate) fn answer_alone<R: Read, Q: Read, V: Watch>(
     numbers: SolveNumbers,
     watch: &mut V,
 ) -> Result<Answer, Refusal>
-    requires objects { numbers.objects ≤ 20000 }
+    requires sizes { AreSizes numbers.sizes }
     requires plain { numbers.workers ≡ 0 }
     ensures solving { IsSolvingIn (watched (V.has_stopped watch.new) (V.was_asked watch.new)) numbers
         (R.remaining reader.old)
         (Q.remaining second.old) result }
-    ensures unread { IfSome (R.remaining reader.old) (λ file. IsErr (file_reading numbers.objects file)
+    ensures unread { IfSome (R.remaining reader.old) (λ file. IsErr (file_reading numbers.sizes file)
         → second.new ≡ second.old) }
     ensures alone { numbers.from ≡ false → second.new ≡ second.old }
 {

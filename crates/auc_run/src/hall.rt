@@ -1,10 +1,12 @@
 //! The job of a hall: a problem is read, and each person gets an arc, or a Hall violator is named.
 
-ghost use Rattle.std.specs.Prelude.{◌≡◌, ◌≤◌, IfOk};
+ghost use Rattle.std.specs.Prelude.{◌≡◌, IfOk};
 ghost use Rattle.auc_claim.specs.InRange.{AreNamesInRange};
 ghost use Rattle.auc_cert.specs.Writing.{Writes};
 ghost use Rattle.auc_run.specs.Completions.{IsFound, IsFoundIn, IsSmall, found_text};
+ghost use Rattle.auc_run.specs.Problems.{AreSizes};
 
+use crate::command::Sizes;
 use crate::found::Found;
 use crate::problem::problem_of;
 use crate::refusal::Refusal;
@@ -45,17 +47,17 @@ fn found_in(alloc: Global, problem: &ArcList) -> Result<Found, AllocError>
     }
 }
 
-/// What is found in the problem that the reader has, with so many objects.
+/// What is found in the problem that the reader has, of these sizes.
 pub(crate) fn found_of<R: Read>(
     alloc: Global,
     reader: &mut R,
-    objects: u32,
+    sizes: Sizes,
 ) -> Result<Found, Refusal>
-    requires { objects ≤ 20000 }
-    ensures found { IsFoundIn objects (R.remaining reader.old) result }
+    requires { AreSizes sizes }
+    ensures found { IsFoundIn sizes (R.remaining reader.old) result }
     ensures small { IfOk result IsSmall }
 {
-    let problem = problem_of(alloc, reader, objects)?;
+    let problem = problem_of(alloc, reader, sizes)?;
     let found = found_in(alloc, &problem)?;
     Ok(found)
 }

@@ -5,6 +5,7 @@
 //! as much memory as they have bytes.
 #![tactic(auto)]
 
+mod claim;
 mod command;
 mod direct;
 mod ending;

@@ -2,12 +2,12 @@
 
 ghost use Rattle.std.specs.Prelude.{◌≡◌, ◌≢◌, ◌≤◌, false, IfOk, IfSome, IsErr};
 ghost use Rattle.auc_run.specs.Problems.{file_reading};
-ghost use Rattle.auc_run.specs.Jobs.{IsInRange, IsPlain, has_second, objects_of, solve_by};
+ghost use Rattle.auc_run.specs.Jobs.{IsInRange, IsPlain, has_second, sizes_of, solve_by};
 ghost use Rattle.auc_run.specs.Reports.{IsWritable};
 ghost use Rattle.auc_run.specs.Said.{Ended, IsOutcome, Said, SaidInPart};
 ghost use Rattle.auc_run.specs.Solutions.{Watched, watched};
 
-use crate::command::{Job, SolveNumbers};
+use crate::command::{Job, Sizes, SolveNumbers};
 use crate::direct::answer_alone;
 use crate::ending::Ending;
 use crate::hall::found_of;
@@ -39,10 +39,10 @@ fn outcome_of<R: Read, Q: Read, V: Watch>(
         (Q.remaining second.old) result }
     ensures writable { IfOk result IsWritable }
     ensures unread { IfSome (R.remaining reader.old)
-        (λ file. IsErr (file_reading (objects_of job.now) file) → second.new ≡ second.old) }
+        (λ file. IsErr (file_reading (sizes_of job.now) file) → second.new ≡ second.old) }
     ensures alone { has_second job.now ≡ false → second.new ≡ second.old }
 {
-    match job {
+    match *job {
         Job::Solve {
             workers,
             bids,
@@ -50,22 +50,27 @@ fn outcome_of<R: Read, Q: Read, V: Watch>(
             objects,
             from,
             direct,
+            large,
         } => {
             let numbers = SolveNumbers {
-                workers: *workers,
-                bids: *bids,
-                audit: *audit,
-                objects: *objects,
-                from: *from,
-                direct: *direct,
+                workers,
+                bids,
+                audit,
+                sizes: Sizes { objects, large },
+                from,
+                direct,
             };
             let answer = answer_alone(alloc, reader, second, numbers, watch)?;
             Ok(Report::Solved(answer))
         }
-        Job::Check { objects } => {
-            Ok(Report::Judged(verdict_of(alloc, reader, second, *objects)?))
+        Job::Check { objects, large } => {
+            let sizes = Sizes { objects, large };
+            Ok(Report::Judged(verdict_of(alloc, reader, second, sizes)?))
         }
-        Job::Hall { objects } => Ok(Report::Completed(found_of(alloc, reader, *objects)?)),
+        Job::Hall { objects, large } => {
+            let sizes = Sizes { objects, large };
+            Ok(Report::Completed(found_of(alloc, reader, sizes)?))
+        }
         Job::Mail => Ok(Report::Replied(replies_of(alloc, reader)?)),
     }
 }
@@ -84,7 +89,7 @@ fn outcome_by_threads<H: Threads + Wait + Sync, R: Read, Q: Read, G: Gate + Sync
     ensures outcome { (w : Watched) → IsOutcome w (solve_by numbers) (R.remaining reader.old)
         (Q.remaining second.old) result }
     ensures writable { IfOk result IsWritable }
-    ensures unread { IfSome (R.remaining reader.old) (λ file. IsErr (file_reading numbers.objects file)
+    ensures unread { IfSome (R.remaining reader.old) (λ file. IsErr (file_reading numbers.sizes file)
         → second.new ≡ second.old) }
     ensures alone { numbers.from ≡ false → second.new ≡ second.old }
 {
@@ -106,7 +111,7 @@ fn perform_plainly<R: Read, Q: Read, W: Write, V: Watch>(
     ensures ended { Ended (watched (V.has_stopped watch.new) (V.was_asked watch.new)) job.now (R.remaining reader.old)
         (Q.remaining second.old) (W.contents writer.old) (W.contents writer.new) result }
     ensures unread { IfSome (R.remaining reader.old)
-        (λ file. IsErr (file_reading (objects_of job.now) file) → second.new ≡ second.old) }
+        (λ file. IsErr (file_reading (sizes_of job.now) file) → second.new ≡ second.old) }
     ensures alone { has_second job.now ≡ false → second.new ≡ second.old }
 {
     let outcome = outcome_of(alloc, job, reader, second, watch);
@@ -147,7 +152,7 @@ pub fn run_plain<R: Read, Q: Read, W: Write>(
         (W.contents writer.new) }
     // A certificate for what is no problem is left unread.
     ensures unread { IfSome (R.remaining reader.old)
-        (λ file. IsErr (file_reading (objects_of job.now) file) → second.new ≡ second.old) }
+        (λ file. IsErr (file_reading (sizes_of job.now) file) → second.new ≡ second.old) }
     // Only a check, and a solve that starts from a certificate, has a second input.
     ensures alone { has_second job.now ≡ false → second.new ≡ second.old }
 {
@@ -184,7 +189,7 @@ pub fn perform<H: Threads + Wait + Sync, R: Read, Q: Read, W: Write, G: Gate + S
         (Q.remaining second.old) (W.contents writer.old) (W.contents writer.new) result }
     // A certificate for what is no problem is left unread.
     ensures unread { IfSome (R.remaining reader.old)
-        (λ file. IsErr (file_reading (objects_of job.now) file) → second.new ≡ second.old) }
+        (λ file. IsErr (file_reading (sizes_of job.now) file) → second.new ≡ second.old) }
     // Only a check, and a solve that starts from a certificate, has a second input.
     ensures alone { has_second job.now ≡ false → second.new ≡ second.old }
 {
@@ -195,6 +200,7 @@ pub fn perform<H: Threads + Wait + Sync, R: Read, Q: Read, W: Write, G: Gate + S
         objects,
         from,
         direct,
+        large,
     } = *job
     {
         if workers > 0 {
@@ -202,7 +208,7 @@ pub fn perform<H: Threads + Wait + Sync, R: Read, Q: Read, W: Write, G: Gate + S
                 workers,
                 bids,
                 audit,
-                objects,
+                sizes: Sizes { objects, large },
                 from,
                 direct,
             };
@@ -241,7 +247,7 @@ pub fn run_command<H: Threads + Wait + Sync, R: Read, Q: Read, W: Write, G: Gate
         (W.contents writer.new) }
     // A certificate for what is no problem is left unread.
     ensures unread { IfSome (R.remaining reader.old)
-        (λ file. IsErr (file_reading (objects_of job.now) file) → second.new ≡ second.old) }
+        (λ file. IsErr (file_reading (sizes_of job.now) file) → second.new ≡ second.old) }
     // Only a check, and a solve that starts from a certificate, has a second input.
     ensures alone { has_second job.now ≡ false → second.new ≡ second.old }
 {

@@ -3,7 +3,7 @@
 
 ghost use Rattle.std.specs.Prelude.{◌≡◌, ◌≤◌, false, IfSome, IsErr};
 ghost use Rattle.auc_cert.specs.Writing.{Writes};
-ghost use Rattle.auc_run.specs.Problems.{file_reading};
+ghost use Rattle.auc_run.specs.Problems.{AreSizes, file_reading};
 ghost use Rattle.auc_run.specs.Jobs.{IsInRange, solve_by};
 ghost use Rattle.auc_run.specs.Solutions.{IsSolvedByThreadsIn, IsSolvedIn, Watched, answer_text, guard_line, limits_of};
 ghost use Rattle.auc_run.specs.Solutions.{thread_limits_of};
@@ -37,10 +37,10 @@ fn answer_of<R: Read>(
     reader: &mut R,
     numbers: SolveNumbers,
 ) -> Result<Answer, Refusal>
-    requires { numbers.objects ≤ 20000 }
+    requires { AreSizes numbers.sizes }
     ensures { IsSolvedIn numbers (R.remaining reader.old) result }
 {
-    let problem = problem_of(alloc, reader, numbers.objects)?;
+    let problem = problem_of(alloc, reader, numbers.sizes)?;
     let answer = solve_serial(alloc, &problem, &serial_limits(numbers.bids))?;
     Ok(answer)
 }
@@ -52,14 +52,14 @@ fn answer_from<R: Read, Q: Read>(
     second: &mut Q,
     numbers: SolveNumbers,
 ) -> Result<Answer, Refusal>
-    requires objects { numbers.objects ≤ 20000 }
+    requires sizes { AreSizes numbers.sizes }
     requires plain { numbers.workers ≡ 0 }
     requires messages { numbers.direct ≡ false }
     ensures from { (w : Watched) → IsSolvedFromIn w numbers (R.remaining reader.old) (Q.remaining second.old) result }
-    ensures unread { IfSome (R.remaining reader.old) (λ file. IsErr (file_reading numbers.objects file)
+    ensures unread { IfSome (R.remaining reader.old) (λ file. IsErr (file_reading numbers.sizes file)
         → second.new ≡ second.old) }
 {
-    let started = started_of(alloc, reader, second, numbers.objects, false)?;
+    let started = started_of(alloc, reader, second, numbers.sizes, false)?;
     let limits = serial_limits(numbers.bids);
     let prices = started.prices.as_slice();
     let answer = solve_serial_from(alloc, &started.problem, &limits, prices)?;
@@ -74,11 +74,11 @@ pub(crate) fn answer_plainly<R: Read, Q: Read>(
     second: &mut Q,
     numbers: SolveNumbers,
 ) -> Result<Answer, Refusal>
-    requires objects { numbers.objects ≤ 20000 }
+    requires sizes { AreSizes numbers.sizes }
     requires plain { numbers.workers ≡ 0 }
     requires messages { numbers.direct ≡ false }
     ensures solving { (w : Watched) → IsSolvingIn w numbers (R.remaining reader.old) (Q.remaining second.old) result }
-    ensures unread { IfSome (R.remaining reader.old) (λ file. IsErr (file_reading numbers.objects file)
+    ensures unread { IfSome (R.remaining reader.old) (λ file. IsErr (file_reading numbers.sizes file)
         → second.new ≡ second.old) }
     ensures alone { numbers.from ≡ false → second.new ≡ second.old }
 {
@@ -117,7 +117,7 @@ fn answer_by_threads<H: Threads + Wait + Sync, R: Read, G: Gate + Sync>(
     requires range { IsInRange (solve_by numbers) }
     ensures { IsSolvedByThreadsIn numbers (R.remaining reader.old) result }
 {
-    let problem = problem_of(alloc, reader, numbers.objects)?;
+    let problem = problem_of(alloc, reader, numbers.sizes)?;
     let solved = solve_threads(rt, alloc, &problem, &thread_limits(numbers), gate)?;
     Ok(solved.answer)
 }
@@ -135,10 +135,10 @@ fn answer_by_threads_from<H: Threads + Wait + Sync, R: Read, Q: Read, G: Gate + 
     requires some { 1 ≤ numbers.workers }
     requires range { IsInRange (solve_by numbers) }
     ensures from { (w : Watched) → IsSolvedFromIn w numbers (R.remaining reader.old) (Q.remaining second.old) result }
-    ensures unread { IfSome (R.remaining reader.old) (λ file. IsErr (file_reading numbers.objects file)
+    ensures unread { IfSome (R.remaining reader.old) (λ file. IsErr (file_reading numbers.sizes file)
         → second.new ≡ second.old) }
 {
-    let started = started_of(alloc, reader, second, numbers.objects, false)?;
+    let started = started_of(alloc, reader, second, numbers.sizes, false)?;
     let limits = thread_limits(numbers);
     let prices = started.prices.as_slice();
     let solved = solve_threads_from(rt, alloc, &started.problem, &limits, prices, gate)?;
@@ -158,7 +158,7 @@ pub(crate) fn answer_in_threads<H: Threads + Wait + Sync, R: Read, Q: Read, G: G
     requires some { 1 ≤ numbers.workers }
     requires range { IsInRange (solve_by numbers) }
     ensures solving { (w : Watched) → IsSolvingIn w numbers (R.remaining reader.old) (Q.remaining second.old) result }
-    ensures unread { IfSome (R.remaining reader.old) (λ file. IsErr (file_reading numbers.objects file)
+    ensures unread { IfSome (R.remaining reader.old) (λ file. IsErr (file_reading numbers.sizes file)
         → second.new ≡ second.old) }
     ensures alone { numbers.from ≡ false → second.new ≡ second.old }
 {

@@ -1,18 +1,19 @@
 //! What a solve starts from: a problem is read, then an old certificate, and of this one the prices.
 
-ghost use Rattle.std.specs.Prelude.{◌≡◌, ◌≤◌, false, length, All, IfOk, IfSome, IsErr};
+ghost use Rattle.std.specs.Prelude.{◌≡◌, false, length, All, IfOk, IfSome, IsErr};
 ghost use Rattle.auc_claim.specs.declared.start_error.StartError.{StartError};
 ghost use Rattle.auc_claim.specs.Start.{AreStart, IsStartPrice};
 ghost use Rattle.auc_graph.specs.Memory.{AnswersUnless};
 ghost use Rattle.auc_graph.specs.Price.{IsPrice};
 ghost use Rattle.auc_direct.specs.Starts.{AreStartPrices};
-ghost use Rattle.auc_run.specs.Problems.{file_reading};
+ghost use Rattle.auc_run.specs.Problems.{AreSizes, file_reading};
 ghost use Rattle.auc_run.specs.Starts.{IsStartIn, direct_start_of, each_price, start_for};
 
+use crate::claim::cert_of;
+use crate::command::Sizes;
 use crate::input::read_all;
 use crate::problem::problem_of;
 use crate::refusal::Refusal;
-use auc_cert::read_cert;
 use auc_claim::{Cert, CertParts, StartError, high_price, start_prices};
 use auc_graph::{ArcList, MOST_READS};
 use std::alloc::Global;
@@ -81,19 +82,19 @@ pub(crate) fn started_of<R: Read, Q: Read>(
     alloc: Global,
     reader: &mut R,
     second: &mut Q,
-    objects: u32,
+    sizes: Sizes,
     direct: bool,
 ) -> Result<Started, Refusal>
-    requires { objects ≤ 20000 }
-    ensures started { IsStartIn direct objects (R.remaining reader.old) (Q.remaining second.old) result }
+    requires { AreSizes sizes }
+    ensures started { IsStartIn direct sizes (R.remaining reader.old) (Q.remaining second.old) result }
     ensures start { direct ≡ false → IfOk result (λ s. AreStart s.problem s.prices.items) }
     ensures each { IfOk result (λ s. AreStartPrices s.problem s.prices.items) }
-    ensures unread { IfSome (R.remaining reader.old) (λ file. IsErr (file_reading objects file)
+    ensures unread { IfSome (R.remaining reader.old) (λ file. IsErr (file_reading sizes file)
         → second.new ≡ second.old) }
 {
-    let problem = problem_of(alloc, reader, objects)?;
+    let problem = problem_of(alloc, reader, sizes)?;
     let bytes = read_all(alloc, second, MOST_READS)?;
-    let cert = read_cert(alloc, bytes.as_slice())?;
+    let cert = cert_of(alloc, bytes.as_slice(), sizes.large)?;
     // Read here, so that the proof has what every certificate keeps.
     let _ = cert.parts();
     let prices = prices_of(alloc, &problem, &cert, direct)?;

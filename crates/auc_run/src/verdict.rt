@@ -1,14 +1,15 @@
 //! Whether the claim of a certificate holds of a problem.
 
-ghost use Rattle.std.specs.Prelude.{◌≡◌, ◌≤◌, IfSome, IsErr};
-ghost use Rattle.auc_run.specs.Problems.{file_reading};
+ghost use Rattle.std.specs.Prelude.{◌≡◌, IfSome, IsErr};
+ghost use Rattle.auc_run.specs.Problems.{AreSizes, file_reading};
 ghost use Rattle.auc_run.specs.Verdicts.{Judges, IsVerdict, said_by};
 
+use crate::claim::cert_of;
+use crate::command::Sizes;
 use crate::input::read_all;
 use crate::problem::problem_of;
 use crate::refusal::Refusal;
 use crate::valid::Valid;
-use auc_cert::read_cert;
 use auc_claim::{Cert, CertParts, check};
 use auc_graph::{ArcList, MOST_READS};
 use std::alloc::Global;
@@ -46,15 +47,15 @@ pub(crate) fn verdict_of<R: Read, Q: Read>(
     alloc: Global,
     reader: &mut R,
     second: &mut Q,
-    objects: u32,
+    sizes: Sizes,
 ) -> Result<Valid, Refusal>
-    requires { objects ≤ 20000 }
-    ensures verdict { IsVerdict objects (R.remaining reader.old) (Q.remaining second.old) result }
-    ensures unread { IfSome (R.remaining reader.old) (λ file. IsErr (file_reading objects file)
+    requires { AreSizes sizes }
+    ensures verdict { IsVerdict sizes (R.remaining reader.old) (Q.remaining second.old) result }
+    ensures unread { IfSome (R.remaining reader.old) (λ file. IsErr (file_reading sizes file)
         → second.new ≡ second.old) }
 {
-    let problem = problem_of(alloc, reader, objects)?;
+    let problem = problem_of(alloc, reader, sizes)?;
     let bytes = read_all(alloc, second, MOST_READS)?;
-    let cert = read_cert(alloc, bytes.as_slice())?;
+    let cert = cert_of(alloc, bytes.as_slice(), sizes.large)?;
     judge(alloc, &problem, &cert)
 }

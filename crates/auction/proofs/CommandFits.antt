@@ -8,9 +8,9 @@ use Rattle.clap.specs.Simple.{App, Shape, built, entered, is_simple, label_of, n
 use Rattle.clap.specs.Takes.{default_passes, entered_passes, is_given, is_valid, level_passes, settle_passes, takes, walk_passes}
 use Rattle.clap.proofs.OnLiterals.{clap_on_literals}
 use Rattle.clap.proofs.WalkLemmas.{walk_stopped}
-use Rattle.auction.specs.Arguments.{AreCheck, AreCheckOf, AreCommand, AreHallOf, AreJob, AreSolve, solve_flags, solve_options, value_in}
+use Rattle.auction.specs.Arguments.{AreCheck, AreCheckOf, AreCommand, AreHallOf, AreJob, AreSolve, large_flags, solve_flags, solve_options, value_in}
 use Rattle.auction.specs.Grammar.{grammar}
-use Rattle.auction.specs.Options.{AreNumbers, GoTogether, HasObjects, is_direct}
+use Rattle.auction.specs.Options.{AreNumbers, GoTogether, HasObjects, is_direct, is_large}
 use Rattle.auction.proofs.WalkLaws.{AreRules, IsLong, built_flag, built_rule, built_shape, command_rows, first_values, row_of_value}
 
 -- the command and its subcommands, as the parser builds them
@@ -21,17 +21,17 @@ abbrev option_built : Text → Rule
 option_built name = built_rule name (Some name) None false
 
 abbrev check_rules : List Rule
-check_rules = built_rule (codes "file") None (Some 1) true ∷ built_rule (codes "cert") None (Some 2) false ∷ option_built (codes "objects") ∷ []
+check_rules = built_rule (codes "file") None (Some 1) true ∷ built_rule (codes "cert") None (Some 2) false ∷ option_built (codes "objects") ∷ built_flag (codes "large") ∷ []
 
 abbrev hall_rules : List Rule
-hall_rules = built_rule (codes "file") None (Some 1) false ∷ option_built (codes "objects") ∷ []
+hall_rules = built_rule (codes "file") None (Some 1) false ∷ option_built (codes "objects") ∷ built_flag (codes "large") ∷ []
 
 abbrev mail_rules : List Rule
 mail_rules = built_rule (codes "script") None (Some 1) false ∷ []
 
 abbrev solve_rules : List Rule
 solve_rules = built_rule (codes "file") None (Some 1) false ∷ option_built (codes "workers") ∷ option_built (codes "bids") ∷ option_built (codes "audit")
-    ∷ option_built (codes "objects") ∷ option_built (codes "from") ∷ option_built (codes "seconds") ∷ built_flag (codes "direct") ∷ built_flag (codes "progress") ∷ []
+    ∷ option_built (codes "objects") ∷ option_built (codes "from") ∷ option_built (codes "seconds") ∷ built_flag (codes "direct") ∷ built_flag (codes "progress") ∷ built_flag (codes "large") ∷ []
 
 -- the arguments have no defaults
 either_way : (b : Bool) (rows : List Row) → cond b rows rows ≡ rows
@@ -61,23 +61,26 @@ seconds_long = record { alone = refl; valued = λ value. refl; is_more = refl; i
 progress_long : IsLong (codes "progress")
 progress_long = record { alone = refl; valued = λ value. refl; is_more = refl; is_more_valued = λ value. refl }
 
+large_long : IsLong (codes "large")
+large_long = record { alone = refl; valued = λ value. refl; is_more = refl; is_more_valued = λ value. refl }
+
 direct_long : IsLong (codes "direct")
 direct_long = record { alone = refl; valued = λ value. refl; is_more = refl; is_more_valued = λ value. refl }
 
-check_are : AreRules (codes "check") check_rules (codes "objects" ∷ []) [] (codes "file" ∷ codes "cert" ∷ [])
+check_are : AreRules (codes "check") check_rules (codes "objects" ∷ []) large_flags (codes "file" ∷ codes "cert" ∷ [])
 check_are = record {
   options_known = (record { by_long = refl; by_id = refl; is_long = objects_long }, tt);
-  flags_known = tt;
+  flags_known = (record { by_long = refl; is_long = large_long }, tt);
   files_known = (record { required = true; by_index = refl; by_id = refl }, (record { required = false; by_index = refl; by_id = refl }, tt));
   no_defaults = refl;
   free = refl;
   same_rows = λ rows. simp either_way;
 }
 
-hall_are : AreRules (codes "hall") hall_rules (codes "objects" ∷ []) [] (codes "file" ∷ [])
+hall_are : AreRules (codes "hall") hall_rules (codes "objects" ∷ []) large_flags (codes "file" ∷ [])
 hall_are = record {
   options_known = (record { by_long = refl; by_id = refl; is_long = objects_long }, tt);
-  flags_known = tt;
+  flags_known = (record { by_long = refl; is_long = large_long }, tt);
   files_known = (record { required = false; by_index = refl; by_id = refl }, tt);
   no_defaults = refl;
   free = refl;
@@ -109,7 +112,10 @@ solve_are = record {
       ),
     ),
   );
-  flags_known = (record { by_long = refl; is_long = direct_long }, (record { by_long = refl; is_long = progress_long }, tt));
+  flags_known = (
+    record { by_long = refl; is_long = direct_long },
+    (record { by_long = refl; is_long = progress_long }, (record { by_long = refl; is_long = large_long }, tt)),
+  );
   files_known = (record { required = false; by_index = refl; by_id = refl }, tt);
   no_defaults = refl;
   free = refl;
@@ -200,7 +206,7 @@ pub solve_fits : (words : List Text) (given : List (Text × Text)) → AreSolve 
 solve_fits words given h = command_fits (codes "solve") solve_rules solve_left solve_options solve_flags (codes "file" ∷ []) solve_are words given h refl
 
 pub hall_fits : (words : List Text) (given : List (Text × Text)) → AreHallOf words given → Fits words (codes "hall") given
-hall_fits words given h = command_fits (codes "hall") hall_rules hall_left (codes "objects" ∷ []) [] (codes "file" ∷ []) hall_are words given h refl
+hall_fits words given h = command_fits (codes "hall") hall_rules hall_left (codes "objects" ∷ []) large_flags (codes "file" ∷ []) hall_are words given h refl
 
 -- an argument is there where it has a value
 given_row : (given : List (Text × Text)) (name : Text) → is_given name (map row_of_value given) ≡ is_some (value_in given name)
@@ -213,7 +219,7 @@ given_row (first ∷ given) name = elim (cases_Bool (bytes_eq first.0 name)) [
 pub check_fits : (words : List Text) (given : List (Text × Text)) → AreCheckOf words given → Fits words (codes "check") given
 check_fits words given h =
     let there : is_given (codes "file") (map row_of_value given) ≡ true = given_row given (codes "file") ∙ h.1 in
-    command_fits (codes "check") check_rules check_left (codes "objects" ∷ []) [] (codes "file" ∷ codes "cert" ∷ []) check_are words given h.0 (simp there)
+    command_fits (codes "check") check_rules check_left (codes "objects" ∷ []) large_flags (codes "file" ∷ codes "cert" ∷ []) check_are words given h.0 (simp there)
 
 -- ---- commands without options
 
@@ -234,6 +240,10 @@ pub no_certificate : (file : Option Text) → value_in (named (codes "file") fil
 no_certificate None = refl
 no_certificate (Some file) = refl
 
+pub not_large : (file : Option Text) → is_large (value_in (named (codes "file") file)) ≡ false
+not_large None = refl
+not_large (Some file) = refl
+
 pub not_direct : (file : Option Text) → is_direct (value_in (named (codes "file") file)) ≡ false
 not_direct None = refl
 not_direct (Some file) = refl
@@ -244,8 +254,8 @@ no_watch (inl h) = absurd cc
 no_watch (inr h) = absurd cc
 
 pub usual_together : (file : Option Text) → GoTogether (value_in (named (codes "file") file)) 0 0
-usual_together None = record { direct = λ e. absurd cc; trail = λ e none. refl; start = λ e both. absurd cc; watch = λ e watch. no_watch watch }
-usual_together (Some file) = record { direct = λ e. absurd cc; trail = λ e none. refl; start = λ e both. absurd cc; watch = λ e watch. no_watch watch }
+usual_together None = record { direct = λ e. absurd cc; trail = λ e none. refl; start = λ e both. absurd cc; watch = λ e watch. no_watch watch; large = λ e. refl }
+usual_together (Some file) = record { direct = λ e. absurd cc; trail = λ e none. refl; start = λ e both. absurd cc; watch = λ e watch. no_watch watch; large = λ e. refl }
 
 pub usual_numbers : (file : Option Text) → AreNumbers (value_in (named (codes "file") file)) 0 100000000 0 0
 usual_numbers None = record { of_workers = refl; of_bids = refl; of_audit = refl; of_objects = refl; of_seconds = (0, refl) }
@@ -260,7 +270,7 @@ pub plain_solve_fits : (words : List Text) (file : Option Text) → AreJob (code
 plain_solve_fits words file h = solve_fits words (named (codes "file") file) (only_named (codes "solve") solve_options solve_flags (codes "file") words file h)
 
 pub plain_hall_fits : (words : List Text) (file : Option Text) → AreJob (codes "hall") words file → Fits words (codes "hall") (named (codes "file") file)
-plain_hall_fits words file h = hall_fits words (named (codes "file") file) (only_named (codes "hall") (codes "objects" ∷ []) [] (codes "file") words file h)
+plain_hall_fits words file h = hall_fits words (named (codes "file") file) (only_named (codes "hall") (codes "objects" ∷ []) large_flags (codes "file") words file h)
 
 pub mail_fits : (words : List Text) (script : Option Text) → AreJob (codes "mail") words script → Fits words (codes "mail") (named (codes "script") script)
 mail_fits words script h = command_fits (codes "mail") mail_rules mail_left [] [] (codes "script" ∷ []) mail_are words (named (codes "script") script) (only_named (codes "mail") [] [] (codes "script") words script h) refl
@@ -274,7 +284,11 @@ pub both_file : (file : Text) (cert : Option Text) → (value_in (both_named fil
 both_file file None = (refl, refl)
 both_file file (Some cert) = (refl, refl)
 
-pub no_objects : (file : Text) (cert : Option Text) → HasObjects (value_in (both_named file cert) (codes "objects")) 0
+pub large_apart : (file : Text) (cert : Option Text) → is_large (value_in (both_named file cert)) ≡ false
+large_apart file None = refl
+large_apart file (Some cert) = refl
+
+pub no_objects : (file : Text) (cert : Option Text) → HasObjects (is_large (value_in (both_named file cert))) (value_in (both_named file cert) (codes "objects")) 0
 no_objects file None = refl
 no_objects file (Some cert) = refl
 
@@ -294,8 +308,8 @@ plain_check words file (Some cert) h = (
 pub plain_check_fits : (words : List Text) (file : Text) (cert : Option Text) → AreCheck words file cert → Fits words (codes "check") (both_named file cert)
 plain_check_fits words file cert h = check_fits words (both_named file cert) (plain_check words file cert h)
 
--- ---- examples: a solve with FILE between two options, one in a word and one in two; one of a direct solve, with the flag between an option and FILE; and a check with the option
--- between FILE and CERT
+-- ---- examples: a solve with FILE between two options, one in a word and one in two; one of a direct solve, with the flag between an option and FILE; a check with the option
+-- between FILE and CERT; and a hall with more objects than a usual problem may have, and the flag after its FILE
 
 example_given : List (Text × Text)
 example_given = (codes "audit", codes "5") ∷ (codes "file", codes "problem") ∷ (codes "workers", codes "+02") ∷ []
@@ -381,3 +395,33 @@ check_words = (
   ),
   refl,
 )
+
+large_given : List (Text × Text)
+large_given = (codes "objects", codes "20001") ∷ (codes "file", codes "problem") ∷ (codes "large", codes "true") ∷ []
+
+large_words : AreHallOf (codes "hall" ∷ codes "--objects=20001" ∷ codes "problem" ∷ codes "--large" ∷ []) large_given
+unfolding IsDistinct large_given
+large_words = (
+  codes "--objects=20001" ∷ codes "problem" ∷ codes "--large" ∷ [],
+  refl,
+  (
+    codes "file" ∷ [],
+    codes "--objects=20001" ∷ [],
+    codes "problem" ∷ codes "--large" ∷ [],
+    inr (inl (inl refl, inr refl, refl)),
+    (
+      [],
+      codes "problem" ∷ [],
+      codes "--large" ∷ [],
+      inl (refl, search obvious, refl),
+      ([], codes "--large" ∷ [], [], inr (inr ((inl refl, refl, refl), refl)), refl, refl),
+      refl,
+    ),
+    refl,
+  ),
+  ((refl, (refl, tt)), ((refl, tt), (tt, tt))),
+)
+
+large_number : HasObjects (is_large (value_in large_given)) (value_in large_given (codes "objects")) 20001
+unfolding large_given
+large_number = search obvious

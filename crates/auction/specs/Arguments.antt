@@ -55,19 +55,23 @@ solve_options = codes "workers" ∷ codes "bids" ∷ codes "audit" ∷ codes "ob
 
 -- its flags
 abbrev pub solve_flags : List (List ℕ)
-solve_flags = codes "direct" ∷ codes "progress" ∷ []
+solve_flags = codes "direct" ∷ codes "progress" ∷ codes "large" ∷ []
+
+-- the flags of a check, and of a hall
+abbrev pub large_flags : List (List ℕ)
+large_flags = codes "large" ∷ []
 
 -- `solve [FILE]` with options and flags
 abbrev pub AreSolve : List (List ℕ) → List (List ℕ × List ℕ) → Type 0
 AreSolve words given = AreCommand (codes "solve") solve_options solve_flags (codes "file" ∷ []) words given
 
--- `check FILE [CERT]` with options
+-- `check FILE [CERT]` with options and flags
 abbrev pub AreCheckOf : List (List ℕ) → List (List ℕ × List ℕ) → Type 0
-AreCheckOf words given = AreCommand (codes "check") (codes "objects" ∷ []) [] (codes "file" ∷ codes "cert" ∷ []) words given × (is_some (value_in given (codes "file")) ≡ true)
+AreCheckOf words given = AreCommand (codes "check") (codes "objects" ∷ []) large_flags (codes "file" ∷ codes "cert" ∷ []) words given × (is_some (value_in given (codes "file")) ≡ true)
 
--- `hall [FILE]` with options
+-- `hall [FILE]` with options and flags
 abbrev pub AreHallOf : List (List ℕ) → List (List ℕ × List ℕ) → Type 0
-AreHallOf words given = AreCommand (codes "hall") (codes "objects" ∷ []) [] (codes "file" ∷ []) words given
+AreHallOf words given = AreCommand (codes "hall") (codes "objects" ∷ []) large_flags (codes "file" ∷ []) words given
 
 -- the words are this command, and may have the name of its input
 abbrev pub AreJob : List ℕ → List (List ℕ) → Option (List ℕ) → Type 0

@@ -4,7 +4,7 @@ use Rattle.std.specs.String.{string_bytes}
 use Rattle.auc_run.specs.declared.command.Job.{Job}
 use Rattle.auction.specs.declared.asked.Words.{Words}
 use Rattle.auction.specs.declared.words_error.WordsError.{WordsError}
-use Rattle.auction.specs.declared.words_error.WordsError.TheVariants.{Usage, AuditAlone, NoMemory, FromObjects, DirectThreads, WatchAlone}
+use Rattle.auction.specs.declared.words_error.WordsError.TheVariants.{Usage, AuditAlone, NoMemory, FromObjects, DirectThreads, WatchAlone, LargeAlone}
 
 -- the words were read as this job on these files, unless memory ran out
 abbrev pub AsksFor : Job → Result Words WordsError → Option (List ℕ) → Option (List ℕ) → Type 0
@@ -36,6 +36,11 @@ abbrev pub IsWatchAlone : Result Words WordsError → Type 0
 IsWatchAlone (Ok w) = ⊥
 IsWatchAlone (Err e) = (e ≡ WatchAlone) ⊎ (e ≡ NoMemory)
 
+-- the words ask for a large problem of another solver, unless memory ran out
+abbrev pub IsLargeAlone : Result Words WordsError → Type 0
+IsLargeAlone (Ok w) = ⊥
+IsLargeAlone (Err e) = (e ≡ LargeAlone) ⊎ (e ≡ NoMemory)
+
 -- the status where the words are no job: 2, or 6 where memory ran out
 abbrev pub words_status : WordsError → ℕ
 words_status Usage = 2
@@ -44,3 +49,4 @@ words_status NoMemory = 6
 words_status FromObjects = 2
 words_status DirectThreads = 2
 words_status WatchAlone = 2
+words_status LargeAlone = 2

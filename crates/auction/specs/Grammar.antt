@@ -15,13 +15,13 @@ option_rule name = record (new_rule name) { long = Some name }
 abbrev pub flag_rule : List ℕ → Rule
 flag_rule name = record (new_rule name) { long = Some name; action = Some Set; range = Some (record { start_inclusive = 0; end_inclusive = 0 }); missing = codes "true" ∷ [] }
 
--- `check FILE [CERT] [--objects M]`
+-- `check FILE [CERT] [--objects M] [--large]`
 abbrev pub check_grammar : App
-check_grammar = with_rule (with_rule (with_rule (on_top (λ s. record s { disable_help_flag = true }) (new_app (codes "check"))) file_rule) (new_rule (codes "cert"))) (option_rule (codes "objects"))
+check_grammar = with_rule (with_rule (with_rule (with_rule (on_top (λ s. record s { disable_help_flag = true }) (new_app (codes "check"))) file_rule) (new_rule (codes "cert"))) (option_rule (codes "objects"))) (flag_rule (codes "large"))
 
--- `hall [FILE] [--objects M]`
+-- `hall [FILE] [--objects M] [--large]`
 abbrev pub hall_grammar : App
-hall_grammar = with_rule (with_rule (on_top (λ s. record s { disable_help_flag = true }) (new_app (codes "hall"))) (new_rule (codes "file"))) (option_rule (codes "objects"))
+hall_grammar = with_rule (with_rule (with_rule (on_top (λ s. record s { disable_help_flag = true }) (new_app (codes "hall"))) (new_rule (codes "file"))) (option_rule (codes "objects"))) (flag_rule (codes "large"))
 
 -- `mail [SCRIPT]`
 abbrev pub mail_grammar : App
@@ -32,9 +32,9 @@ abbrev pub optioned_grammar : App
 optioned_grammar = with_rule (with_rule (with_rule (with_rule (with_rule (with_rule (on_top (λ s. record s { disable_help_flag = true }) (new_app (codes "solve"))) (new_rule (codes "file")))
     (option_rule (codes "workers"))) (option_rule (codes "bids"))) (option_rule (codes "audit"))) (option_rule (codes "objects"))) (option_rule (codes "from"))
 
--- the same with `[--seconds T] [--direct] [--progress]`
+-- the same with `[--seconds T] [--direct] [--progress] [--large]`
 abbrev pub solve_grammar : App
-solve_grammar = with_rule (with_rule (with_rule optioned_grammar (option_rule (codes "seconds"))) (flag_rule (codes "direct"))) (flag_rule (codes "progress"))
+solve_grammar = with_rule (with_rule (with_rule (with_rule optioned_grammar (option_rule (codes "seconds"))) (flag_rule (codes "direct"))) (flag_rule (codes "progress"))) (flag_rule (codes "large"))
 
 -- no help, no version, and a command has to be named
 abbrev pub bare_grammar : App

@@ -4,12 +4,13 @@ use Rattle.std.specs.Str.Parse.{ParsesUnsigned}
 use Rattle.clap.specs.Words.{Row, first_of}
 use Rattle.auc_run.specs.declared.command.Job.{Job}
 use Rattle.auc_run.specs.declared.command.Job.TheVariants.{Solve, Check, Hall}
+use Rattle.auc_run.specs.Problems.{objects_limit}
 use Rattle.auction.specs.CommandLine.{AsksFor}
 use Rattle.auction.specs.declared.asked.Solve.{Solve as SolveAsked}
 use Rattle.auction.specs.declared.asked.Watching.{Watching}
 use Rattle.auction.specs.declared.asked.Words.{Words}
 use Rattle.auction.specs.declared.words_error.WordsError.{WordsError}
-use Rattle.auction.specs.declared.words_error.WordsError.TheVariants.{Usage, AuditAlone, NoMemory, FromObjects, DirectThreads, WatchAlone}
+use Rattle.auction.specs.declared.words_error.WordsError.TheVariants.{Usage, AuditAlone, NoMemory, FromObjects, DirectThreads, WatchAlone, LargeAlone}
 
 -- the text is read as this number by `from_str` of the numbers of 64 bits
 abbrev pub IsNumber : List ℕ → ℕ → Type 0
@@ -25,9 +26,23 @@ abbrev pub HasNumber : ℕ → ℕ → ℕ → Option (List ℕ) → ℕ → Typ
 HasNumber least most usual None n = n ≡ usual
 HasNumber least most usual (Some value) n = IsNumber value n × (least ≤ n) × (n ≤ most)
 
--- the number of objects that the option's value gives; without a value 0, which stands for as many as persons
-abbrev pub HasObjects : Option (List ℕ) → ℕ → Type 0
-HasObjects value n = HasNumber 1 20000 0 value n
+-- the number of objects that the option's value gives, of a large problem or not; without a value 0, which stands for
+-- as many as persons
+abbrev pub HasObjects : Bool → Option (List ℕ) → ℕ → Type 0
+HasObjects large value n = HasNumber 1 (objects_limit large) 0 value n
+
+-- the number of bids that the option's value gives; without a value the usual one, which for a large problem is the
+-- greatest
+abbrev pub usual_bids : Bool → ℕ
+usual_bids false = 100000000
+usual_bids true = 1000000000000
+
+abbrev pub HasBids : Bool → Option (List ℕ) → ℕ → Type 0
+HasBids large value n = HasNumber 1 1000000000000 (usual_bids large) value n
+
+-- a large problem is asked for
+abbrev pub is_large : (List ℕ → Option (List ℕ)) → Bool
+is_large values = is_some (values (codes "large"))
 
 -- the number of seconds that the option's value gives; without a value 0, which stands for any number
 abbrev pub HasSeconds : Option (List ℕ) → ℕ → Type 0
@@ -36,9 +51,9 @@ HasSeconds value n = HasNumber 1 1000000 0 value n
 -- The numbers that the options' values give. That of the seconds isn't part of the job.
 pub record AreNumbers (values : List ℕ → Option (List ℕ)) (workers bids audit objects : ℕ) : Type 0 where
   pub of_workers : HasNumber 0 16 0 (values (codes "workers")) workers
-  pub of_bids : HasNumber 1 1000000000000 100000000 (values (codes "bids")) bids
+  pub of_bids : HasBids (is_large values) (values (codes "bids")) bids
   pub of_audit : HasNumber 0 1000000 0 (values (codes "audit")) audit
-  pub of_objects : HasObjects (values (codes "objects")) objects
+  pub of_objects : HasObjects (is_large values) (values (codes "objects")) objects
   pub of_seconds : (seconds : ℕ) × HasSeconds (values (codes "seconds")) seconds
 
 -- how the options' values ask that the solve be watched
@@ -63,15 +78,16 @@ abbrev pub HasWatch : (List ℕ → Option (List ℕ)) → Type 0
 HasWatch values = (is_some (values (codes "seconds")) ≡ true) ⊎ (is_some (values (codes "progress")) ≡ true)
 
 -- What goes together: the direct solver has no threads and no trail; the other one has a trail only where there
--- are threads, starts from a certificate only without a number of objects, and isn't watched.
+-- are threads, starts from a certificate only without a number of objects, isn't watched, and has no large problem.
 pub record GoTogether (values : List ℕ → Option (List ℕ)) (workers audit : ℕ) : Type 0 where
   pub direct : is_direct values ≡ true → ¬ HasThreads values
   pub trail : is_direct values ≡ false → workers ≡ 0 → audit ≡ 0
   pub start : is_direct values ≡ false → ¬ HasBoth values
   pub watch : is_direct values ≡ false → ¬ HasWatch values
+  pub large : is_direct values ≡ false → is_large values ≡ false
 
 -- whether they go together, or why not, where a fault of a direct solve is told alone, and a trail before a start,
--- and that before a watch
+-- that before a watch, and this before a large problem
 abbrev pub AreTogether : (List ℕ → Option (List ℕ)) → ℕ → ℕ → Result ⊤ WordsError → Type 0
 AreTogether values workers audit (Ok _) = GoTogether values workers audit
 AreTogether values workers audit (Err Usage) = ⊥
@@ -81,13 +97,15 @@ AreTogether values workers audit (Err FromObjects) = (is_direct values ≡ false
 AreTogether values workers audit (Err DirectThreads) = (is_direct values ≡ true) × HasThreads values
 AreTogether values workers audit (Err WatchAlone) =
     (is_direct values ≡ false) × (workers ≡ 0 → audit ≡ 0) × (¬ HasBoth values) × HasWatch values
+AreTogether values workers audit (Err LargeAlone) =
+    (is_direct values ≡ false) × (workers ≡ 0 → audit ≡ 0) × (¬ HasBoth values) × (¬ HasWatch values) × (is_large values ≡ true)
 
 -- the solve that the options' values ask for: with their numbers, where these go together
 abbrev pub AsksToSolve : (List ℕ → Option (List ℕ)) → Job → Type 0
 AsksToSolve values job =
     (workers : ℕ) × (bids : ℕ) × (audit : ℕ) × (objects : ℕ) × AreNumbers values workers bids audit objects
     × GoTogether values workers audit
-    × (job ≡ Solve workers bids audit objects (is_some (values (codes "from"))) (is_direct values))
+    × (job ≡ Solve workers bids audit objects (is_some (values (codes "from"))) (is_direct values) (is_large values))
 
 -- all numbers are in their ranges, and these don't go together: the direct solver, and threads or a trail
 pub record WantThreads (values : List ℕ → Option (List ℕ)) : Type 0 where
@@ -131,6 +149,19 @@ pub record WantWatch (values : List ℕ → Option (List ℕ)) : Type 0 where
   pub apart : ¬ HasBoth values
   pub watch : HasWatch values
 
+-- or, with none of these faults, that another solver solve a large problem
+pub record WantLarge (values : List ℕ → Option (List ℕ)) : Type 0 where
+  pub workers : ℕ
+  pub bids : ℕ
+  pub audit : ℕ
+  pub objects : ℕ
+  pub numbers : AreNumbers values workers bids audit objects
+  pub direct : is_direct values ≡ false
+  pub trail : workers ≡ 0 → audit ≡ 0
+  pub apart : ¬ HasBoth values
+  pub unwatched : ¬ HasWatch values
+  pub large : is_large values ≡ true
+
 -- why the options' values ask for no solve
 abbrev pub AskWrongly : (List ℕ → Option (List ℕ)) → WordsError → Type 0
 AskWrongly values Usage = (workers bids audit objects : ℕ) → ¬ AreNumbers values workers bids audit objects
@@ -139,6 +170,7 @@ AskWrongly values NoMemory = ⊥
 AskWrongly values FromObjects = WantBoth values
 AskWrongly values DirectThreads = WantThreads values
 AskWrongly values WatchAlone = WantWatch values
+AskWrongly values LargeAlone = WantLarge values
 
 -- the options' values ask for this solve, watched so, or for none
 abbrev pub IsSolveOf : (List ℕ → Option (List ℕ)) → Result SolveAsked WordsError → Type 0
@@ -151,15 +183,15 @@ abbrev pub HasSolveOf : Result Words WordsError → List Row → Type 0
 HasSolveOf (Ok w) rows = AsksToSolve (λ name. first_of name rows) w.job × AsksFor w.job (Ok w) (first_of (codes "file") rows) (first_of (codes "from") rows) × IsWatchedBy (λ name. first_of name rows) w.watching
 HasSolveOf (Err e) rows = (e ≡ NoMemory) ⊎ AskWrongly (λ name. first_of name rows) e
 
--- the words were read as the job with the number of objects that this value gives, on these files; or refused, where it
--- gives none, or memory ran out
-abbrev pub HasObjectsJob : (ℕ → Job) → Result Words WordsError → Option (List ℕ) → Option (List ℕ) → Option (List ℕ) → Type 0
-HasObjectsJob job (Ok w) value first second = (objects : ℕ) × HasObjects value objects × AsksFor (job objects) (Ok w) first second
-HasObjectsJob job (Err e) value first second = (e ≡ NoMemory) ⊎ ((e ≡ Usage) × ((objects : ℕ) → ¬ HasObjects value objects))
+-- the words were read as the job with the number of objects that this value gives, of a large problem or not, on these
+-- files; or refused, where it gives none, or memory ran out
+abbrev pub HasObjectsJob : (ℕ → Bool → Job) → Result Words WordsError → Bool → Option (List ℕ) → Option (List ℕ) → Option (List ℕ) → Type 0
+HasObjectsJob job (Ok w) large value first second = (objects : ℕ) × HasObjects large value objects × AsksFor (job objects large) (Ok w) first second
+HasObjectsJob job (Err e) large value first second = (e ≡ NoMemory) ⊎ ((e ≡ Usage) × ((objects : ℕ) → ¬ HasObjects large value objects))
 
 -- the words were read as the check, or the hall, that a subcommand's matches ask for
 abbrev pub HasCheckOf : Result Words WordsError → List Row → Type 0
-HasCheckOf r rows = HasObjectsJob Check r (first_of (codes "objects") rows) (first_of (codes "file") rows) (first_of (codes "cert") rows)
+HasCheckOf r rows = HasObjectsJob Check r (is_large (λ name. first_of name rows)) (first_of (codes "objects") rows) (first_of (codes "file") rows) (first_of (codes "cert") rows)
 
 abbrev pub HasHallOf : Result Words WordsError → List Row → Type 0
-HasHallOf r rows = HasObjectsJob Hall r (first_of (codes "objects") rows) (first_of (codes "file") rows) None
+HasHallOf r rows = HasObjectsJob Hall r (is_large (λ name. first_of name rows)) (first_of (codes "objects") rows) (first_of (codes "file") rows) None

@@ -40,7 +40,7 @@ fn with_flag<'a>(
     command.arg(flag)
 }
 
-/// `check FILE [CERT] [--objects M]`.
+/// `check FILE [CERT] [--objects M] [--large]`.
 fn check_command<'a>(alloc: Global) -> Result<Command<'a>, AllocError>
     ensures shape { IfOk result (λ c. app_of c ≡ check_grammar) }
     ensures local { IfOk result (λ c. (fields_of c).has_globals ≡ false) }
@@ -49,10 +49,11 @@ fn check_command<'a>(alloc: Global) -> Result<Command<'a>, AllocError>
         .disable_help_flag(true)
         .arg(Arg::new(alloc, "file").required(true))?
         .arg(Arg::new(alloc, "cert"))?;
-    with_option(alloc, of_files, "objects")
+    let with_objects = with_option(alloc, of_files, "objects")?;
+    with_flag(alloc, with_objects, "large")
 }
 
-/// `hall [FILE] [--objects M]`.
+/// `hall [FILE] [--objects M] [--large]`.
 fn hall_command<'a>(alloc: Global) -> Result<Command<'a>, AllocError>
     ensures shape { IfOk result (λ c. app_of c ≡ hall_grammar) }
     ensures local { IfOk result (λ c. (fields_of c).has_globals ≡ false) }
@@ -60,7 +61,8 @@ fn hall_command<'a>(alloc: Global) -> Result<Command<'a>, AllocError>
     let of_file = Command::new(alloc, "hall")
         .disable_help_flag(true)
         .arg(Arg::new(alloc, "file"))?;
-    with_option(alloc, of_file, "objects")
+    let with_objects = with_option(alloc, of_file, "objects")?;
+    with_flag(alloc, with_objects, "large")
 }
 
 /// `mail [SCRIPT]`.
@@ -88,7 +90,8 @@ fn solve_with_options<'a>(alloc: Global) -> Result<Command<'a>, AllocError>
     with_option(alloc, with_objects, "from")
 }
 
-/// The same with `[--seconds T] [--direct] [--progress]`. The numbers are read after the parser, by [`crate::numbers`].
+/// The same with `[--seconds T] [--direct] [--progress] [--large]`. The numbers are read after the parser, by
+/// [`crate::numbers`].
 fn solve_command<'a>(alloc: Global) -> Result<Command<'a>, AllocError>
     ensures shape { IfOk result (λ c. app_of c ≡ solve_grammar) }
     ensures local { IfOk result (λ c. (fields_of c).has_globals ≡ false) }
@@ -96,7 +99,8 @@ fn solve_command<'a>(alloc: Global) -> Result<Command<'a>, AllocError>
     let with_options = solve_with_options(alloc)?;
     let with_seconds = with_option(alloc, with_options, "seconds")?;
     let with_direct = with_flag(alloc, with_seconds, "direct")?;
-    with_flag(alloc, with_direct, "progress")
+    let with_progress = with_flag(alloc, with_direct, "progress")?;
+    with_flag(alloc, with_progress, "large")
 }
 
 /// No command yet. Words that ask for help or for the version are at fault like others.

@@ -10,6 +10,7 @@ mod grammar;
 mod numbers;
 mod timer;
 mod usage;
+mod wanted;
 mod word_fault;
 mod words;
 mod words_error;
@@ -217,7 +218,8 @@ fn status_of(error: WordsError) -> u8
         | WordsError::AuditAlone
         | WordsError::FromObjects
         | WordsError::DirectThreads
-        | WordsError::WatchAlone => USAGE,
+        | WordsError::WatchAlone
+        | WordsError::LargeAlone => USAGE,
         WordsError::NoMemory => NO_MEMORY,
     }
 }

@@ -3,8 +3,9 @@
 ghost use Rattle.std.specs.Prelude.{◌≡◌, ◌≤◌, ℕ, IfErr, IfOk, codes, is_some};
 ghost use Rattle.clap.specs.Words.{first_value, found_of};
 ghost use Rattle.auc_run.specs.Jobs.{IsInRange};
+ghost use Rattle.auc_run.specs.Problems.{objects_limit};
 ghost use Rattle.auction.specs.Options.{AreTogether, HasNumber, HasObjects, HasSeconds, IsNumberIn, IsSolveOf};
-ghost use Rattle.auction.specs.Options.{IsWatchedBy, is_direct};
+ghost use Rattle.auction.specs.Options.{IsWatchedBy, is_direct, is_large, usual_bids};
 
 use crate::asked::{Solve, Watching};
 use crate::words_error::WordsError;
@@ -17,8 +18,11 @@ pub(crate) const MOST_WORKERS: u64 = 16;
 /// The most calls that the trail of a mail may note.
 pub(crate) const MOST_AUDIT: u64 = 1_000_000;
 
-/// The most objects that a problem may have.
+/// The most objects that a usual problem may have.
 pub(crate) const MOST_OBJECTS: u64 = 20_000;
+
+/// The most objects that a large problem may have: [`auc_graph::MOST_OBJECTS`].
+pub(crate) const MOST_LARGE_OBJECTS: u64 = 4_194_304;
 
 /// The most seconds that a solve may be given.
 pub(crate) const MOST_SECONDS: u64 = 1_000_000;
@@ -52,20 +56,39 @@ fn number_of(
     }
 }
 
-/// How many objects the problem is to have; 0, as without the option, means as many as persons.
-pub(crate) fn objects_of(matches: &ArgMatches<'_>) -> Result<u32, WordsError>
-    ensures given { IfOk result (HasObjects (first_value (found_of matches.now) (codes "objects"))) }
-    ensures refused { IfErr result
-        (λ e. (e ≡ WordsError.Usage) × ((n : ℕ) → ¬ HasObjects (first_value (found_of matches.now) (codes "objects"))
-        n)) }
-    ensures range { IfOk result (λ n. n ≤ 20000) }
+/// The most objects that a problem may have, a large one or not.
+fn most_objects(large: bool) -> u64
+    ensures limit { result ≡ objects_limit large }
+    ensures most { result ≤ 4194304 }
 {
-    let objects = number_of(matches, "objects", 1, MOST_OBJECTS, 0)?;
+    if large {
+        MOST_LARGE_OBJECTS
+    } else {
+        MOST_OBJECTS
+    }
+}
+
+/// How many objects the problem is to have, a large one or not; 0, as without the option, means as many as persons.
+pub(crate) fn objects_of(matches: &ArgMatches<'_>, large: bool) -> Result<u32, WordsError>
+    ensures given { IfOk result (HasObjects large (first_value (found_of matches.now) (codes "objects"))) }
+    ensures refused { IfErr result
+        (λ e. (e ≡ WordsError.Usage) × ((n : ℕ) → ¬ HasObjects large
+        (first_value (found_of matches.now) (codes "objects")) n)) }
+    ensures range { IfOk result (λ n. n ≤ objects_limit large) }
+{
+    let objects = number_of(matches, "objects", 1, most_objects(large), 0)?;
     Ok(objects as u32)
 }
 
+/// How many bids a phase may make where the option isn't given: for a large problem as many as there may be.
+fn usual_bids(large: bool) -> u64
+    ensures { result ≡ usual_bids large }
+{
+    if large { MOST_BIDS } else { USUAL_BIDS }
+}
+
 /// Whether an option is given.
-fn is_given(matches: &ArgMatches<'_>, id: &str) -> bool
+pub(crate) fn is_given(matches: &ArgMatches<'_>, id: &str) -> bool
     ensures { result ≡ is_some (first_value (found_of matches.now) id.now) }
 {
     matches.get_str(id).is_some()
@@ -86,7 +109,7 @@ fn watching_of(matches: &ArgMatches<'_>) -> Result<Watching, WordsError>
 }
 
 /// Looks whether the options go together: a direct solve has no threads and no trail; another one has a trail only
-/// with threads, starts from a certificate only without a number of objects, and isn't watched.
+/// with threads, starts from a certificate only without a number of objects, isn't watched, and has no large problem.
 fn look_together(
     matches: &ArgMatches<'_>,
     workers: u64,
@@ -111,6 +134,9 @@ fn look_together(
     if is_given(matches, "seconds") || is_given(matches, "progress") {
         return Err(WordsError::WatchAlone);
     }
+    if is_given(matches, "large") {
+        return Err(WordsError::LargeAlone);
+    }
     Ok(())
 }
 
@@ -120,9 +146,10 @@ pub(crate) fn solve_of_options(matches: &ArgMatches<'_>) -> Result<Solve, WordsE
     ensures range { IfOk result (λ s. IsInRange s.job) }
 {
     let workers = number_of(matches, "workers", 0, MOST_WORKERS, 0)?;
-    let bids = number_of(matches, "bids", 1, MOST_BIDS, USUAL_BIDS)?;
+    let large = is_given(matches, "large");
+    let bids = number_of(matches, "bids", 1, MOST_BIDS, usual_bids(large))?;
     let audit = number_of(matches, "audit", 0, MOST_AUDIT, 0)?;
-    let objects = objects_of(matches)?;
+    let objects = objects_of(matches, large)?;
     let watching = watching_of(matches)?;
     let direct = is_given(matches, "direct");
     look_together(matches, workers, audit, direct)?;
@@ -133,6 +160,7 @@ pub(crate) fn solve_of_options(matches: &ArgMatches<'_>) -> Result<Solve, WordsE
         objects,
         from: is_given(matches, "from"),
         direct,
+        large,
     };
     Ok(Solve { job, watching })
 }

@@ -8,14 +8,14 @@ ghost use Rattle.clap.specs.Words.{subcommand_rows_of, takes};
 ghost use Rattle.auc_run.specs.Jobs.{IsInRange};
 ghost use Rattle.auction.specs.Arguments.{AreCheck, AreCheckOf, AreHallOf, AreJob, AreSolve, value_in};
 ghost use Rattle.auction.specs.CommandLine.{AsksFor, IsAuditAlone, IsDirectThreads, IsFromObjects, IsUsage};
-ghost use Rattle.auction.specs.CommandLine.{IsWatchAlone};
+ghost use Rattle.auction.specs.CommandLine.{IsLargeAlone, IsWatchAlone};
 ghost use Rattle.auction.specs.Grammar.{grammar};
 ghost use Rattle.auction.specs.Options.{AreNumbers, GoTogether, HasBoth, HasCheckOf, HasHallOf, HasObjects, HasSolveOf};
-ghost use Rattle.auction.specs.Options.{HasThreads, HasWatch, IsWatchedBy, is_direct};
+ghost use Rattle.auction.specs.Options.{HasThreads, HasWatch, IsWatchedBy, is_direct, is_large};
 
 use crate::asked::{UNWATCHED, Watching, Words};
 use crate::grammar::all_commands;
-use crate::numbers::{objects_of, solve_of_options};
+use crate::numbers::{is_given, objects_of, solve_of_options};
 use crate::words_error::WordsError;
 use auc_run::Job;
 use clap::ArgMatches;
@@ -89,8 +89,9 @@ fn check_of(alloc: Global, matches: &ArgMatches<'_>) -> Result<Words, WordsError
     ensures check { HasCheckOf result (rows_of (found_of matches.now)) }
     ensures range { IfOk result (λ w. IsInRange w.job) }
 {
-    let objects = objects_of(matches)?;
-    let check = Job::Check { objects };
+    let large = is_given(matches, "large");
+    let objects = objects_of(matches, large)?;
+    let check = Job::Check { objects, large };
     job_of_two(alloc, matches, check, "file", "cert", UNWATCHED)
 }
 
@@ -99,8 +100,9 @@ fn hall_of(alloc: Global, matches: &ArgMatches<'_>) -> Result<Words, WordsError>
     ensures hall { HasHallOf result (rows_of (found_of matches.now)) }
     ensures range { IfOk result (λ w. IsInRange w.job) }
 {
-    let objects = objects_of(matches)?;
-    job_of(alloc, matches, Job::Hall { objects }, "file")
+    let large = is_given(matches, "large");
+    let objects = objects_of(matches, large)?;
+    job_of(alloc, matches, Job::Hall { objects, large }, "file")
 }
 
 /// The solve that the options ask for, of the file that is named, from the certificate that is named.
@@ -141,40 +143,45 @@ fn words_of(alloc: Global, matches: &ArgMatches<'_>) -> Result<Words, WordsError
 /// [`WordsError::DirectThreads`] where a direct solve is to have threads or a trail; then, of another one,
 /// [`WordsError::AuditAlone`] where it has no threads and is to keep a trail; then [`WordsError::FromObjects`] where it
 /// is to start from a certificate and has a number of objects; then [`WordsError::WatchAlone`] where it is to be
-/// watched.
+/// watched; then [`WordsError::LargeAlone`] where its problem is to be a large one.
 pub fn read_words(alloc: Global, words: &[String]) -> Result<Words, WordsError>
     // A check that is asked for without options is read as that check, of as many objects as persons, unless memory
     // runs out.
     ensures check { (file : List ℕ) (cert : Option (List ℕ)) → AreCheck (map string_bytes words.now) file cert
-        → AsksFor (Job.Check 0) result (Some file) cert }
-    // A check with a number of objects, anywhere among its files, is read as the check with that number, unless memory
-    // runs out.
+        → AsksFor (Job.Check 0 false) result (Some file) cert }
+    // A check with a number of objects, with the flag for a large problem, or with both, anywhere among its files, is
+    // read as the check with that number, of a large problem where the flag is given, unless memory runs out.
     ensures check_objects { (given : List (List ℕ × List ℕ)) (objects : ℕ)
-        → AreCheckOf (map string_bytes words.now) given → HasObjects (value_in given (codes "objects")) objects
-        → AsksFor (Job.Check objects) result (value_in given (codes "file")) (value_in given (codes "cert")) }
+        → AreCheckOf (map string_bytes words.now) given
+        → HasObjects (is_large (value_in given)) (value_in given (codes "objects")) objects
+        → AsksFor (Job.Check objects (is_large (value_in given))) result (value_in given (codes "file"))
+        (value_in given (codes "cert")) }
     // A hall that is asked for without options is read as that hall, of as many objects as persons, unless memory runs
     // out.
     ensures hall { (file : Option (List ℕ)) → AreJob (codes "hall") (map string_bytes words.now) file
-        → AsksFor (Job.Hall 0) result file None }
-    // A hall with a number of objects, before or after its file, is read as the hall with that number, unless memory
-    // runs out.
+        → AsksFor (Job.Hall 0 false) result file None }
+    // A hall with a number of objects, with the flag for a large problem, or with both, before or after its file, is
+    // read as the hall with that number, of a large problem where the flag is given, unless memory runs out.
     ensures hall_objects { (given : List (List ℕ × List ℕ)) (objects : ℕ)
-        → AreHallOf (map string_bytes words.now) given → HasObjects (value_in given (codes "objects")) objects
-        → AsksFor (Job.Hall objects) result (value_in given (codes "file")) None }
+        → AreHallOf (map string_bytes words.now) given
+        → HasObjects (is_large (value_in given)) (value_in given (codes "objects")) objects
+        → AsksFor (Job.Hall objects (is_large (value_in given))) result (value_in given (codes "file")) None }
     // A mail that is asked for is read as that mail, unless memory runs out.
     ensures mail { (script : Option (List ℕ)) → AreJob (codes "mail") (map string_bytes words.now) script
         → AsksFor Job.Mail result script None }
     // A solve that is asked for without options is read as that solve, with no threads, the usual bids, no trail, as
     // many objects as persons, and from no certificate, unless memory runs out.
     ensures solve { (file : Option (List ℕ)) → AreJob (codes "solve") (map string_bytes words.now) file
-        → AsksFor (Job.Solve 0 100000000 0 0 false false) result file None }
+        → AsksFor (Job.Solve 0 100000000 0 0 false false false) result file None }
     // A solve with options, in any order, is read as the solve with their numbers and the usual ones of the others,
-    // from the certificate that they name, and directly where they say so, unless memory runs out.
+    // from the certificate that they name, directly where they say so, and of a large problem where they say that,
+    // unless memory runs out.
     ensures options { (given : List (List ℕ × List ℕ)) (workers bids audit objects : ℕ)
         → AreSolve (map string_bytes words.now) given → AreNumbers (value_in given) workers bids audit objects
         → GoTogether (value_in given) workers audit
         → AsksFor (Job.Solve workers bids audit objects (is_some (value_in given (codes "from")))
-        (is_direct (value_in given))) result (value_in given (codes "file")) (value_in given (codes "from")) }
+        (is_direct (value_in given)) (is_large (value_in given))) result (value_in given (codes "file"))
+        (value_in given (codes "from")) }
     // An option whose value is no number, or one out of range, is a fault of usage, unless memory runs out.
     ensures wrong_number { (given : List (List ℕ × List ℕ)) → AreSolve (map string_bytes words.now) given
         → ((workers bids audit objects : ℕ) → ¬ AreNumbers (value_in given) workers bids audit objects)
@@ -182,7 +189,8 @@ pub fn read_words(alloc: Global, words: &[String]) -> Result<Words, WordsError>
     // So is a number of objects of a check, or of a hall.
     ensures wrong_objects { (given : List (List ℕ × List ℕ)) → AreCheckOf (map string_bytes words.now) given
         ⊎ AreHallOf (map string_bytes words.now) given
-        → ((objects : ℕ) → ¬ HasObjects (value_in given (codes "objects")) objects) → IsUsage result }
+        → ((objects : ℕ) → ¬ HasObjects (is_large (value_in given)) (value_in given (codes "objects")) objects)
+        → IsUsage result }
     // A direct solve with threads or a trail is a fault of its own, unless memory runs out.
     ensures direct_threads { (given : List (List ℕ × List ℕ)) (workers bids audit objects : ℕ)
         → AreSolve (map string_bytes words.now) given → AreNumbers (value_in given) workers bids audit objects
@@ -201,6 +209,11 @@ pub fn read_words(alloc: Global, words: &[String]) -> Result<Words, WordsError>
         → AreSolve (map string_bytes words.now) given → AreNumbers (value_in given) workers bids audit objects
         → is_direct (value_in given) ≡ false → (workers ≡ 0 → audit ≡ 0) → ¬ HasBoth (value_in given)
         → HasWatch (value_in given) → IsWatchAlone result }
+    // After all of these, so is one of a large problem.
+    ensures large_alone { (given : List (List ℕ × List ℕ)) (workers bids audit objects : ℕ)
+        → AreSolve (map string_bytes words.now) given → AreNumbers (value_in given) workers bids audit objects
+        → is_direct (value_in given) ≡ false → (workers ≡ 0 → audit ≡ 0) → ¬ HasBoth (value_in given)
+        → ¬ HasWatch (value_in given) → is_large (value_in given) ≡ true → IsLargeAlone result }
     // A solve is watched as its options ask: for so many seconds, and with or without progress.
     ensures watched { (given : List (List ℕ × List ℕ)) → AreSolve (map string_bytes words.now) given
         → IfOk result (λ w. IsWatchedBy (value_in given) w.watching) }

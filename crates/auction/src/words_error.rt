@@ -28,6 +28,9 @@ pub enum WordsError {
     /// They ask for another solver, and that it be watched.
     #[error("auction: --seconds T and --progress want --direct: a solve by messages has its limits by --bids N alone")]
     WatchAlone,
+    /// They ask for another solver, and that it solve a large problem.
+    #[error("auction: --large wants --direct: a solve by messages has at most 10,000 persons")]
+    LargeAlone,
 }
 
 impl From<AllocError> for WordsError {

@@ -1,101 +1,27 @@
 //! Which of some words that are no job is at fault, and what was wanted. Whether words are a job, the parser says
 //! (`words.rt`); this says why not.
 
-use crate::numbers::{MOST_AUDIT, MOST_OBJECTS, MOST_SECONDS, MOST_WORKERS, number_in};
+use crate::wanted::{
+    Command, Wanted, command_of, fault_of_value, most_names, nearest_option, wanted_of,
+};
 use crate::word_fault::{WordFault, nearest};
-use auc_run::MOST_BIDS;
 use std::alloc::{AllocError, Global};
 
 /// Of arguments that are no command, where none of them can be named.
 const NO_COMMAND: &str = "these arguments are no command; see auction --help";
 
-/// A command.
-#[derive(Clone, Copy, Debug, PartialEq, Eq)]
-enum Command {
-    Solve,
-    Check,
-    Hall,
-    Mail,
-}
-
-/// What an option wants after it.
-#[derive(Clone, Copy, Debug, PartialEq, Eq)]
-enum Wanted {
-    Workers,
-    Bids,
-    Audit,
-    Objects,
-    Seconds,
-    Name,
-    Nothing,
-}
-
 /// How far a walk over the words after a command has come.
 #[derive(Drop)]
 struct Walk<'a> {
     command: Command,
+    // Whether the flag for a large problem is among the words.
+    is_large: bool,
     // How many names there were.
     names: u32,
     // Whether all that comes is a name, after --.
     is_plain: bool,
     // The option before this word, where its value is to come.
     awaited: Option<(&'a str, Wanted)>,
-}
-
-fn command_of(word: &str) -> Option<Command> {
-    match word {
-        "solve" => Some(Command::Solve),
-        "check" => Some(Command::Check),
-        "hall" => Some(Command::Hall),
-        "mail" => Some(Command::Mail),
-        _ => None,
-    }
-}
-
-/// What an option of this command wants after it; none where the command has no such option.
-fn wanted_of(command: Command, option: &str) -> Option<Wanted> {
-    if option == "--objects" && command != Command::Mail {
-        return Some(Wanted::Objects);
-    }
-    if command != Command::Solve {
-        return None;
-    }
-    match option {
-        "--workers" => Some(Wanted::Workers),
-        "--bids" => Some(Wanted::Bids),
-        "--audit" => Some(Wanted::Audit),
-        "--from" => Some(Wanted::Name),
-        "--seconds" => Some(Wanted::Seconds),
-        "--direct" | "--progress" => Some(Wanted::Nothing),
-        _ => None,
-    }
-}
-
-/// The option of this command that is most like a wrong one, both without hyphens.
-fn nearest_option(
-    alloc: Global,
-    command: Command,
-    option: &str,
-) -> Result<Option<&'static str>, AllocError> {
-    let name = option.trim_start_matches('-');
-    match command {
-        Command::Solve => {
-            let right = [
-                "workers", "bids", "audit", "objects", "from", "direct", "seconds", "progress",
-            ];
-            nearest(alloc, name, right.as_slice())
-        }
-        Command::Check | Command::Hall => nearest(alloc, name, ["objects"].as_slice()),
-        Command::Mail => Ok(None),
-    }
-}
-
-/// The most files that a command reads.
-fn most_names(command: Command) -> u32 {
-    match command {
-        Command::Check => 2,
-        Command::Solve | Command::Hall | Command::Mail => 1,
-    }
 }
 
 /// Whether a word is an option, and no name.
@@ -111,47 +37,23 @@ fn parts_of(word: &str) -> (&str, Option<&str>) {
     }
 }
 
-/// What is wrong with a value, if anything.
-fn fault_of_value<'a>(wanted: Wanted, value: &'a str) -> Option<WordFault<'a>> {
-    let (least, most, before) = match wanted {
-        Wanted::Workers => (
-            0,
-            MOST_WORKERS,
-            "--workers wants a whole number from 0 to 16, and not ",
-        ),
-        Wanted::Bids => (
-            1,
-            MOST_BIDS,
-            "--bids wants a whole number from 1 to 1000000000000, and not ",
-        ),
-        Wanted::Audit => (
-            0,
-            MOST_AUDIT,
-            "--audit wants a whole number from 0 to 1000000, and not ",
-        ),
-        Wanted::Objects => (
-            1,
-            MOST_OBJECTS,
-            "--objects wants a whole number from 1 to 20000, and not ",
-        ),
-        Wanted::Seconds => (
-            1,
-            MOST_SECONDS,
-            "--seconds wants a whole number from 1 to 1000000, and not ",
-        ),
-        Wanted::Name | Wanted::Nothing => return None,
-    };
-    match number_in(value, least, most) {
-        Ok(_) => None,
-        Err(_) => Some(WordFault::about(before, value, "")),
-    }
-}
-
 /// Whether an option was given among these words.
 fn is_among(words: &[String], option: &str) -> bool {
     for word in words {
         if parts_of(word.as_str()).0 == option {
             return true;
+        }
+    }
+    false
+}
+
+/// Whether the flag for a large problem is among these words, before those that are names only.
+fn is_large_among(words: &[String]) -> bool {
+    for word in words {
+        match word.as_str() {
+            "--" => return false,
+            "--large" => return true,
+            _ => {}
         }
     }
     false
@@ -207,7 +109,7 @@ impl<'a> Walk<'a> {
             return Ok(None);
         }
         let option = parts_of(word).0;
-        let Some(wanted) = wanted_of(self.command, option) else {
+        let Some(wanted) = wanted_of(self.command, self.is_large, option) else {
             let nearest = nearest_option(alloc, self.command, option)?;
             let fault = WordFault::about(
                 "this command has no option ",
@@ -248,6 +150,7 @@ fn fault_after<'a>(
 ) -> Result<WordFault<'a>, AllocError> {
     let mut walk = Walk {
         command,
+        is_large: is_large_among(words),
         names: 0,
         is_plain: false,
         awaited: None,

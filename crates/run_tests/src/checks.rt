@@ -8,7 +8,10 @@ use std::io::ErrorKind;
 use std::test::*;
 
 /// A check with as many objects as persons.
-const CHECK: Job = Job::Check { objects: 0 };
+const CHECK: Job = Job::Check {
+    objects: 0,
+    large: false,
+};
 
 /// A check may get its inputs byte by byte.
 #[test]

@@ -15,6 +15,7 @@ const USUAL: Job = Job::Solve {
     objects: 0,
     from: false,
     direct: true,
+    large: false,
 };
 
 /// The same with one bid a phase.
@@ -25,6 +26,7 @@ const ONE_BID: Job = Job::Solve {
     objects: 0,
     from: false,
     direct: true,
+    large: false,
 };
 
 /// The same from an old certificate, with three objects.
@@ -35,6 +37,7 @@ const FROM: Job = Job::Solve {
     objects: 3,
     from: true,
     direct: true,
+    large: false,
 };
 
 /// Prices of 0 for three objects.

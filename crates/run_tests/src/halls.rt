@@ -8,7 +8,10 @@ use std::io::ErrorKind;
 use std::test::*;
 
 /// A search with as many objects as persons.
-const HALL: Job = Job::Hall { objects: 0 };
+const HALL: Job = Job::Hall {
+    objects: 0,
+    large: false,
+};
 
 /// A hall may get its problem byte by byte, and has one input.
 #[test]

@@ -16,6 +16,8 @@ mod fakes;
 #[cfg(test)]
 mod halls;
 #[cfg(test)]
+mod larges;
+#[cfg(test)]
 mod mails;
 #[cfg(test)]
 mod pieces;

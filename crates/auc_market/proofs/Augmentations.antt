@@ -11,7 +11,7 @@ use Rattle.auc_rows.specs.declared.arc.ShortArc.{ShortArc}
 use Rattle.auc_rows.specs.Rows.{FlatTable, IsFlatTable, IsShort, flat_row_of, scale_in}
 use Rattle.auc_letters.specs.declared.limits.TheConstants.{NOBODY}
 use Rattle.auc_market.specs.declared.search.Rise.{Rise}
-use Rattle.auc_market.specs.Market.{AreHigher, AreSpare, IsSlack, Stands, holder_at, no_own, own_at}
+use Rattle.auc_market.specs.Market.{AreHigher, AreSpare, AreUnsold, IsSlack, Stands, holder_at, no_own, own_at}
 use Rattle.auc_market.specs.Path.{AreRaised, AreRises, AreTakenBack, AreWithin, HasRisen, IsRise, IsWithin}
 use Rattle.auc_market.specs.Scan.{short_value}
 use Rattle.auc_market.specs.Starts.{any_eps}
@@ -63,13 +63,16 @@ module _ (prices : List ℤ) (holders : List ℕ) (rises : List Rise) (are : Are
     many_after : length new ≡ r.objects
     many_after = raised.many ∙ stands.prices_are
 
-    spare_by : AreSpare r prices holders → AreSpare r new holders
-    spare_by (inl square) = inl square
-    spare_by (inr unheld) = inr (λ k nobody. by k nobody (raised.each k))
+    pub raised_unsold : AreUnsold prices holders → AreUnsold new holders
+    raised_unsold unheld k nobody = by k nobody (raised.each k)
       where
         by : (k : ℕ) → holder_at holders k ≡ NOBODY → HasRisen prices new rises k → price_at new k ≡ pos 0
         by k nobody (inl same) = same ∙ unheld k nobody
         by k nobody (inr x) = absurd ((is_rise x.0 x.1).held (ap (holder_at holders) x.2 ∙ nobody))
+
+    spare_by : AreSpare r prices holders → AreSpare r new holders
+    spare_by (inl square) = inl square
+    spare_by (inr unheld) = inr (raised_unsold unheld)
 
     pub raised_any : Stands r any_eps new holders owns
     raised_any = record {
@@ -167,10 +170,11 @@ pub higher_same : (prices : List ℤ) → AreHigher prices prices
 higher_same prices k = omega (arith, ints)
 
 -- a path, and another one from where it has ended
-pub augmented_on : (r : FlatTable) (eps : ℤ) (first next last : ℕ) (prices mid new : List ℤ) (held sold : List ℕ) (owns had left : List ShortArc) → IsAugmented r eps first prices mid held owns had next → IsAugmented r eps next mid new sold had left last → IsAugmented r eps first prices new sold owns left last
-augmented_on r eps first next last prices mid new held sold owns had left one two = record {
+pub augmented_on : (r : FlatTable) (eps : ℤ) (first next last : ℕ) (prices mid new : List ℤ) (holders held sold : List ℕ) (owns had left : List ShortArc) → IsAugmented r eps first prices mid holders held owns had next → IsAugmented r eps next mid new held sold had left last → IsAugmented r eps first prices new holders sold owns left last
+augmented_on r eps first next last prices mid new holders held sold owns had left one two = record {
   stands = two.stands;
   higher = λ k. (let a = one.higher k in let b = two.higher k in omega (arith, ints, a, b));
+  unsold = λ u. two.unsold (one.unsold u);
   none = two.none;
   below = two.below;
   but = λ n other h. two.but n other (one.but n other h);
@@ -178,7 +182,7 @@ augmented_on r eps first next last prices mid new held sold owns had left one tw
 
 -- an object is taken at its price
 pub augmented_at_price : (r : FlatTable) (eps : ℤ) (person : ℕ) (prices new : List ℤ) (holders sold : List ℕ) (owns left : List ShortArc) (d : ℕ) (s : ShortArc) (amount : ℤ) → IsFlatTable r → Stands r eps prices holders owns → person < length r.rows → (own_at owns person).object ≡ NOBODY → amount ≡ price_at prices s.object → IsSlack r eps prices person s
-    → new ≡ set prices s.object amount → sold ≡ set holders s.object person → left ≡ set (set owns person s) (holder_at holders s.object) no_own → d ≡ holder_at holders s.object → IsAugmented r eps person prices new sold owns left d
+    → new ≡ set prices s.object amount → sold ≡ set holders s.object person → left ≡ set (set owns person s) (holder_at holders s.object) no_own → d ≡ holder_at holders s.object → IsAugmented r eps person prices new holders sold owns left d
 augmented_at_price r eps person prices new holders sold owns left d s amount sound stands known none is slack e f g h =
     let object = (All-contains (IsShort r.objects) (flat_row_of r person) s (sound.each person) slack.listed).object in
     let many = stands.prices_are in

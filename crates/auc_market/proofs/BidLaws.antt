@@ -20,19 +20,25 @@ risen prices j amount lt up k =
       | inr other ↦ (let h = get_or-set_other prices j k amount (pos 0) other in omega (arith, ints, h))
     ]
 
+-- no arc of the row has a lower value than the best one
+pub best_least : (val : ShortArc → ℤ) (row : List ShortArc) (b : Best) → IsBest val row b → All (λ a. val b.arc ≤ℤ val a) row
+best_least val row b h k d lt = by (h.others k d lt)
+  where
+    by : (get_or row k d ≡ b.arc) ⊎ (b.second ≤ℤ val (get_or row k d)) → val b.arc ≤ℤ val (get_or row k d)
+    by (inl same) = let e = ap val same in omega (arith, ints, e)
+    by (inr above) = let i = h.is in let l = h.least in omega (arith, ints, above, i, l)
+
 -- the margin: what a bid adds to the price beside eps
 pub IsLead : List ShortArc → Best → ℤ → Type 0
-IsLead row b margin = (pos 0 ≤ℤ margin) × ((All (λ a. a ≡ b.arc) row) ⊎ (margin ≡ (b.second -ℤ b.value)))
+IsLead row b margin = (pos 0 ≤ℤ margin) × ((All (λ a. a ≡ b.arc) row) ⊎ (margin ≤ℤ (b.second -ℤ b.value)))
 
-pub margin_is : (val : ShortArc → ℤ) (row : List ShortArc) (b : Best) (margin spread : ℤ) → IsBest val row b → pos 0 ≤ℤ spread → (b.second <ℤ endless → margin ≡ (b.second -ℤ b.value)) → (endless ≤ℤ b.second → margin ≡ spread) → IsLead row b margin
+pub margin_is : (val : ShortArc → ℤ) (row : List ShortArc) (b : Best) (margin : ℤ) → IsBest val row b → pos 0 ≤ℤ margin → (b.second <ℤ endless → margin ≤ℤ (b.second -ℤ b.value)) → IsLead row b margin
 unfolding IsLead
-margin_is val row b margin spread h low next only = by h.second_is
+margin_is val row b margin h low next = (low, by h.second_is)
   where
-    by : ((b.second ≡ endless) × All (λ a. a ≡ b.arc) row) ⊎ IsSecond val row b.second → (pos 0 ≤ℤ margin) × ((All (λ a. a ≡ b.arc) row) ⊎ (margin ≡ (b.second -ℤ b.value)))
-    by (inl e) = (let o = only (let a = e.0 in omega (arith, ints, a)) in omega (arith, ints, o, low), inl e.1)
-    by (inr s) =
-        let n = next (let u = s.range.high in omega (arith, ints, u)) in
-        (let l = h.least in omega (arith, ints, n, l), inr n)
+    by : ((b.second ≡ endless) × All (λ a. a ≡ b.arc) row) ⊎ IsSecond val row b.second → (All (λ a. a ≡ b.arc) row) ⊎ (margin ≤ℤ (b.second -ℤ b.value))
+    by (inl e) = inl e.1
+    by (inr s) = inr (next (let u = s.range.high in omega (arith, ints, u)))
 
 module _ (scale eps : ℤ) (prices : List ℤ) (row : List ShortArc) (b : Best) (margin amount : ℤ) (h : IsBest (short_value scale prices) row b) (is : IsLead row b margin) (within : b.arc.object < length prices)
     (sum : amount ≡ ((price_at prices b.arc.object +ℤ margin) +ℤ eps)) (some : pos 1 ≤ℤ eps) where
@@ -50,14 +56,14 @@ module _ (scale eps : ℤ) (prices : List ℤ) (row : List ShortArc) (b : Best) 
   itself : (a : ShortArc) → a ≡ arc → short_value scale new arc ≤ℤ (short_value scale new a +ℤ eps)
   itself a same = let e = ap (short_value scale new) same in omega (arith, ints, e, some)
 
-  other : (a : ShortArc) → b.second ≤ℤ short_value scale prices a → margin ≡ (b.second -ℤ b.value) → short_value scale new arc ≤ℤ (short_value scale new a +ℤ eps)
+  other : (a : ShortArc) → b.second ≤ℤ short_value scale prices a → margin ≤ℤ (b.second -ℤ b.value) → short_value scale new arc ≤ℤ (short_value scale new a +ℤ eps)
   other a above e =
       let r = risen prices arc.object amount within up a.object in
       let own = get_or-set_same prices arc.object amount (pos 0) within in
       let i = h.is in
       omega (arith, ints, above, r, own, i, sum, e)
 
-  no_better : (a : ShortArc) (k : ℕ) → k < length row → get_or row k arc ≡ a → (a ≡ arc) ⊎ (b.second ≤ℤ short_value scale prices a) → (All (λ c. c ≡ arc) row) ⊎ (margin ≡ (b.second -ℤ b.value)) → short_value scale new arc ≤ℤ (short_value scale new a +ℤ eps)
+  no_better : (a : ShortArc) (k : ℕ) → k < length row → get_or row k arc ≡ a → (a ≡ arc) ⊎ (b.second ≤ℤ short_value scale prices a) → (All (λ c. c ≡ arc) row) ⊎ (margin ≤ℤ (b.second -ℤ b.value)) → short_value scale new arc ≤ℤ (short_value scale new a +ℤ eps)
   no_better a k lt at (inl same) by = itself a same
   no_better a k lt at (inr above) (inl all) = itself a (sym at ∙ all k arc lt)
   no_better a k lt at (inr above) (inr e) = other a above e
@@ -71,17 +77,13 @@ module _ (scale eps : ℤ) (prices : List ℤ) (row : List ShortArc) (b : Best) 
   }
 
 -- The amount is at most that of the rule of a bid.
-module _ (scale spread eps : ℤ) (prices : List ℤ) (row : List ShortArc) (b : Best) (margin scaled amount : ℤ) (h : IsBest (short_value scale prices) row b) (next : b.second <ℤ endless → margin ≡ (b.second -ℤ b.value)) (only : endless ≤ℤ b.second → margin ≡ scaled) (low : pos 0 ≤ℤ scaled) (product : scaled ≡ (scale *ℤ spread))
+module _ (scale spread eps : ℤ) (prices : List ℤ) (row : List ShortArc) (b : Best) (margin scaled amount : ℤ) (h : IsBest (short_value scale prices) row b) (next : b.second <ℤ endless → margin ≤ℤ (b.second -ℤ b.value)) (only : endless ≤ℤ b.second → margin ≤ℤ scaled) (low : pos 0 ≤ℤ margin) (least : pos 0 ≤ℤ scaled) (product : scaled ≡ (scale *ℤ spread))
     (sum : amount ≡ ((price_at prices b.arc.object +ℤ margin) +ℤ eps)) where
   abbrev Seconds : Type 0
   Seconds = ((b.second ≡ endless) × All (λ a. a ≡ b.arc) row) ⊎ IsSecond (short_value scale prices) row b.second
 
-  margin_second : IsSecond (short_value scale prices) row b.second → margin ≡ (b.second -ℤ b.value)
+  margin_second : IsSecond (short_value scale prices) row b.second → margin ≤ℤ (b.second -ℤ b.value)
   margin_second s = next (let u = s.range.high in omega (arith, ints, u))
-
-  margin_low : Seconds → pos 0 ≤ℤ margin
-  margin_low (inl e) = let o = only (let a = e.0 in omega (arith, ints, a)) in omega (arith, ints, o, low)
-  margin_low (inr s) = let n = margin_second s in let l = h.least in omega (arith, ints, n, l)
 
   wrapping_value : Seconds → (k : ℕ) (d : ShortArc) → k < length row → (get_or row k d ≡ b.arc) ⊎ ((short_value scale prices b.arc +ℤ margin) ≤ℤ short_value scale prices (get_or row k d))
   wrapping_value (inl e) k d lt = inl (e.1 k d lt)
@@ -98,13 +100,13 @@ module _ (scale spread eps : ℤ) (prices : List ℤ) (row : List ShortArc) (b :
       let u = s.below in
       let n = margin_second s in
       let v = h.is in
-      omega (arith, ints, same, u, n, v, low, product)
+      omega (arith, ints, same, u, n, v, least, product)
 
   pub offer_is : IsOffer scale spread eps prices row b.arc amount
   offer_is = record {
     listed = h.listed;
     margin = margin;
-    low = margin_low h.second_is;
+    low = low;
     others = wrapping_value h.second_is;
     only = alone h.second_is;
     is = sum;

@@ -1,10 +1,9 @@
 -- The range of values.
-use Rattle.std.proofs.Common.{◌≡◌, ℕ, ◌+◌, ◌*◌, ◌≤◌, ◌^◌, arith, length, List, subst, sym, w64, pos, negsuc}
-use Rattle.std.specs.Prelude.{All, ℤ, ◌+ℤ◌, ◌*ℤ◌, ◌≤ℤ◌, neg_ℤ, FitsSigned, unsigned_abs}
-use Rattle.std.proofs.lemmas.Int.{ints, unsigned_abs-mul}
+use Rattle.std.proofs.Common.{◌≡◌, arith, length, List, subst, sym, pos, negsuc}
+use Rattle.std.specs.Prelude.{All, ℤ, ◌*ℤ◌, ◌≤ℤ◌}
+use Rattle.std.proofs.lemmas.Int.{ints}
 use Rattle.std.proofs.lemmas.List.Elements.{All-get_or}
 use Rattle.std.proofs.Math.IntN.{pos-*ℤ-pos}
-use Rattle.std.proofs.Math.Nat.{mul-le-mul_left}
 use Rattle.auc_graph.specs.Dual.{price_at}
 use Rattle.auc_graph.specs.Price.{IsPrice}
 use Rattle.auc_rows.specs.declared.arc.ShortArc.{ShortArc}

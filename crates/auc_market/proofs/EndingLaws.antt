@@ -17,7 +17,8 @@ use Rattle.auc_market.proofs.PhasesLaws.{phases_on}
 limit_earlier : (r : FlatTable) (bids : ℕ) (s t : State) (reason : Reason) (prices : List ℤ) → ArePhases r bids s t → total s.prices ≤ℤ total t.prices → IsLimit r bids t reason prices → IsLimit r bids s reason prices
 limit_earlier r bids s t Reason.Bids prices run le (out, up) =
     (record { eps = out.eps; is_eps = out.is_eps; first = out.first; before = phases_on r bids s t out.first run out.before; stands = out.stands; last = out.last; run = out.run; prices_are = out.prices_are }, omega (arith, ints, le, up))
-limit_earlier r bids s t Reason.Ceiling prices run le h = h
+limit_earlier r bids s t Reason.Ceiling prices run le h =
+    record { eps = h.eps; is_eps = h.is_eps; last = h.last; run = phases_on r bids s t h.last run h.run; stands = h.stands; above = h.above; prices_are = h.prices_are }
 limit_earlier r bids s t Reason.Posts prices run le h = h
 limit_earlier r bids s t Reason.Trail prices run le h = h
 limit_earlier r bids s t Reason.Mail prices run le h = h

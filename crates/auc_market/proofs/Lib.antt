@@ -7,6 +7,7 @@ pub mod EndingLaws
 pub mod Moving
 pub mod Opening
 pub mod Augmentations
+pub mod CeilingLaws
 -- for this crate
 mod ScanLaws
 mod Shortlists

@@ -14,7 +14,7 @@ use Rattle.auc_rows.specs.Rows.{FlatTable, IsFlatTable, IsShort, flat_row_of, sc
 use Rattle.auc_letters.specs.declared.limits.TheConstants.{NOBODY}
 use Rattle.auc_market.specs.Bid.{IsRaise}
 use Rattle.auc_market.specs.Augmented.{IsAugmented}
-use Rattle.auc_market.specs.Market.{AreSpare, HaveAllBut, IsAwarded, IsSlack, Stands, holder_at, no_own, own_at}
+use Rattle.auc_market.specs.Market.{AreSpare, AreUnsold, HaveAllBut, IsAwarded, IsSlack, Stands, holder_at, no_own, own_at}
 use Rattle.auc_market.proofs.BidLaws.{risen}
 
 -- ---- lists
@@ -248,9 +248,17 @@ stands_by r eps prices these holders they owns those e f g h =
     (subst (λ (os : List ShortArc). Stands r eps prices holders os) (sym g) h))
 
 -- a person takes an object at a price that is no lower, and at which its arc satisfies epsilon-complementary slackness
+-- where an object gets a holder, at any price, the others without one have price 0 as before
+pub set_unsold : (prices : List ℤ) (holders : List ℕ) (object person : ℕ) (amount : ℤ) → object < length holders → person ≢ NOBODY → AreUnsold prices holders → AreUnsold (set prices object amount) (set holders object person)
+set_unsold prices holders object person amount lt known unsold j nobody =
+    elim (cases_eq j object) [
+      | inl same ↦ absurd (known (sym (get_or-set_same holders object person NOBODY lt) ∙ (ap (holder_at (set holders object person)) (sym same) ∙ nobody)))
+      | inr other ↦ (get_or-set_other prices object j amount (pos 0) other ∙ unsold j (sym (get_or-set_other holders object j person NOBODY other) ∙ nobody))
+    ]
+
 pub augmented_taken : (r : FlatTable) (eps : ℤ) (person : ℕ) (prices new : List ℤ) (holders sold : List ℕ) (owns left : List ShortArc) (d : ℕ) (s : ShortArc) (amount : ℤ) → IsFlatTable r → Stands r eps prices holders owns → person < length r.rows → (own_at owns person).object ≡ NOBODY
     → price_at prices s.object ≤ℤ amount → amount ≤ℤ pos (2 ^ 61) → IsSlack r eps (set prices s.object amount) person s → new ≡ set prices s.object amount → sold ≡ set holders s.object person → left ≡ set (set owns person s) (holder_at holders s.object) no_own → d ≡ holder_at holders s.object
-    → IsAugmented r eps person prices new sold owns left d
+    → IsAugmented r eps person prices new holders sold owns left d
 augmented_taken r eps person prices new holders sold owns left d s amount sound stands known none up high fits e f g h =
     record {
       stands = stands_by r eps (set prices s.object amount) new (set holders s.object person) sold (set (set owns person s) (holder_at holders s.object) no_own) left e f g (stands_after r eps prices holders owns person s amount sound stands known none up fits high);
@@ -258,7 +266,11 @@ augmented_taken r eps person prices new holders sold owns left d s amount sound 
       but = λ n other b. subst (λ (os : List ShortArc). HaveAllBut n os d other) (sym g) (subst (λ (m : ℕ). HaveAllBut n (set (set owns person s) (holder_at holders s.object) no_own) m other) (sym h) (all_but r eps prices holders owns person s amount sound stands known none up fits n other b));
       below = λ some. (let l = holder_below r eps prices holders owns sound stands s.object (λ z. some (h ∙ z)) in omega (arith, l, h));
       higher = λ k. (let up_k = rise r eps prices holders owns person s amount sound stands known none up fits k in rw e up_k);
+      unsold = λ u. rw (e, f) (set_unsold prices holders s.object person amount object (let most = sound.most in λ n. omega (arith, n, known, most)) u);
     }
+  where
+    object : s.object < length holders
+    object = let is = (All-contains (IsShort r.objects) (flat_row_of r person) s (sound.each person) fits.listed).object in let many = stands.holders_are in omega (arith, is, many)
 
 pub awarded : (r : FlatTable) (eps : ℤ) (person : ℕ) (prices new : List ℤ) (holders sold : List ℕ) (owns left : List ShortArc) (d : ℕ) (s : ShortArc) (amount : ℤ) → IsFlatTable r → IsEps eps → Stands r eps prices holders owns → person < length r.rows → (own_at owns person).object ≡ NOBODY
     → IsRaise (scale_in r) eps prices (flat_row_of r person) s amount → amount ≤ℤ pos (2 ^ 61) → new ≡ set prices s.object amount → sold ≡ set holders s.object person → left ≡ set (set owns person s) (holder_at holders s.object) no_own → d ≡ holder_at holders s.object

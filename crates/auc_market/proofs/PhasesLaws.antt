@@ -43,6 +43,12 @@ one_phase r bids s t phase = plays s t (begins s refl) phase
 pub phase_more : (r : FlatTable) (few bids : ℕ) (s t : State) → few ≤ bids → IsPhase r few s t → IsPhase r bids s t
 phase_more r few bids s t le phase = record { eps = phase.eps; is_eps = phase.is_eps; stands = phase.stands; made = within_more r phase.eps few bids s t le phase.made }
 
+pub phases_more : (r : FlatTable) (few bids : ℕ) (s t : State) → few ≤ bids → ArePhases r few s t → ArePhases r bids s t
+phases_more r few bids s t le (begins v same) = begins v same
+phases_more r few bids s t le (plays v w run phase) = plays v w (phases_more r few bids s v le run) (phase_more r few bids v w le phase)
+phases_more r few bids s t le (opens v w run opened) = opens v w (phases_more r few bids s v le run) opened
+phases_more r few bids s t le (refines v w run refined) = refines v w (phases_more r few bids s v le run) refined
+
 pub opened_is : (s t : State) (n : ℕ) → t.prices ≡ s.prices → t.owns ≡ replicate n no_own → IsOpened s t
 opened_is s t n prices owns = record { prices = prices; none = λ i. ap (λ (xs : List ShortArc). (own_at xs i).object) owns ∙ ap (λ (a : ShortArc). a.object) (replicate_default n i no_own) }
 

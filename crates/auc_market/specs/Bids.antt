@@ -39,7 +39,7 @@ pub record IsBidMade (r : FlatTable) (eps : ℤ) (s t : State) : Type 0 where
 pub record IsPathMade (r : FlatTable) (eps : ℤ) (s t : State) : Type 0 where
   pub person : ℕ
   pub free : ℕ
-  pub augmented : IsAugmented r eps person s.prices t.prices t.holders s.owns t.owns free
+  pub augmented : IsAugmented r eps person s.prices t.prices s.holders t.holders s.owns t.owns free
 
 -- this number of bids leads from one state to another, with paths between them
 pub data AreMade (r : FlatTable) (eps : ℤ) (s : State) : ℕ → State → Type 0 where

@@ -24,11 +24,21 @@ pub record HaveRunOut (r : FlatTable) (bids : ℕ) (begun : State) (prices : Lis
   pub run : AreMade r eps first bids last
   pub prices_are : prices ≡ last.prices
 
+-- The phases of a run have led to a free person whose least bid would be above the greatest price.
+pub record IsBlocked (r : FlatTable) (bids : ℕ) (begun : State) (prices : List ℤ) : Type 0 where
+  pub eps : ℤ
+  pub is_eps : IsEpsOf r eps
+  pub last : State
+  pub run : ArePhases r bids begun last
+  pub stands : Stands r eps last.prices last.holders last.owns
+  pub above : IsAbove r eps last.prices last.owns
+  pub prices_are : prices ≡ last.prices
+
 -- The limits that may stop a phase. Either it has made all its bids, and the prices add up to at least that many more
--- than those that the run began with. Or some person's bid, at an eps of a phase, would be above the greatest price.
+-- than those that the run began with. Or a free person's least bid would be above the greatest price.
 abbrev pub IsLimit : FlatTable → ℕ → State → Reason → List ℤ → Type 0
 IsLimit r bids begun Reason.Bids prices = HaveRunOut r bids begun prices × ((total begun.prices +ℤ pos bids) ≤ℤ total prices)
-IsLimit r bids begun Reason.Ceiling prices = (eps : ℤ) × IsEpsOf r eps × IsAbove r eps prices
+IsLimit r bids begun Reason.Ceiling prices = IsBlocked r bids begun prices
 IsLimit r bids begun Reason.Posts prices = ⊥
 IsLimit r bids begun Reason.Trail prices = ⊥
 IsLimit r bids begun Reason.Mail prices = ⊥

@@ -8,6 +8,7 @@ pub mod Shortlist
 pub mod Starts
 pub mod Augmented
 pub mod Endings
+pub mod Ceiling
 pub mod Incumbent
 pub mod Position
 pub mod Path

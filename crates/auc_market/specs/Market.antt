@@ -6,7 +6,6 @@ use Rattle.auc_graph.specs.Price.{IsPrice}
 use Rattle.auc_rows.specs.declared.arc.ShortArc.{ShortArc}
 use Rattle.auc_rows.specs.Rows.{FlatTable, flat_row_of, scale_in}
 use Rattle.auc_letters.specs.declared.limits.TheConstants.{NOBODY}
-use Rattle.auc_market.specs.Bid.{IsOffer}
 use Rattle.auc_market.specs.Scan.{short_value}
 
 -- the holder of an object
@@ -26,9 +25,13 @@ pub record IsSlack (r : FlatTable) (eps : ℤ) (prices : List ℤ) (i : ℕ) (s 
   pub listed : Contains (flat_row_of r i) s
   pub least : All (λ b. short_value (scale_in r) prices s ≤ℤ (short_value (scale_in r) prices b +ℤ eps)) (flat_row_of r i)
 
+-- each object without a holder has price 0
+abbrev pub AreUnsold : List ℤ → List ℕ → Type 0
+AreUnsold prices holders = (j : ℕ) → holder_at holders j ≡ NOBODY → price_at prices j ≡ pos 0
+
 -- either there are as many objects as persons, or each object without a holder has price 0
 abbrev pub AreSpare : FlatTable → List ℤ → List ℕ → Type 0
-AreSpare r prices holders = (r.objects ≡ length r.rows) ⊎ ((j : ℕ) → holder_at holders j ≡ NOBODY → price_at prices j ≡ pos 0)
+AreSpare r prices holders = (r.objects ≡ length r.rows) ⊎ AreUnsold prices holders
 
 -- The invariant between two bids. Each object's holder has it, and each person with an object is its holder. Prices are
 -- in range, and each holder's arc satisfies epsilon-complementary slackness.
@@ -62,14 +65,15 @@ pub record HaveAllBut (n : ℕ) (owns : List ShortArc) (person other : ℕ) : Ty
   pub apart : person ≢ NOBODY → person ≢ other
   pub others : (i : ℕ) → i < n → i ≢ person → i ≢ other → (own_at owns i).object ≢ NOBODY
 
--- at these prices and this eps some person's bid would be above the greatest price
-pub record IsAbove (r : FlatTable) (eps : ℤ) (prices : List ℤ) : Type 0 where
+-- at these prices and this eps a free person's least bid for the best object would be above the greatest price
+pub record IsAbove (r : FlatTable) (eps : ℤ) (prices : List ℤ) (owns : List ShortArc) : Type 0 where
   pub person : ℕ
   pub known : person < length r.rows
+  pub free : (own_at owns person).object ≡ NOBODY
   pub arc : ShortArc
-  pub amount : ℤ
-  pub offer : IsOffer (scale_in r) r.spread eps prices (flat_row_of r person) arc amount
-  pub above : pos (2 ^ 61) <ℤ amount
+  pub listed : Contains (flat_row_of r person) arc
+  pub best : All (λ b. short_value (scale_in r) prices arc ≤ℤ short_value (scale_in r) prices b) (flat_row_of r person)
+  pub above : pos (2 ^ 61) <ℤ (price_at prices arc.object +ℤ eps)
 
 -- no price is lower than before
 abbrev pub AreHigher : List ℤ → List ℤ → Type 0
@@ -91,4 +95,4 @@ pub record IsTooHigh (r : FlatTable) (eps : ℤ) (prices new : List ℤ) (holder
   pub prices_are : new ≡ prices
   pub holders_are : sold ≡ holders
   pub owns_are : left ≡ owns
-  pub above : IsAbove r eps prices
+  pub above : IsAbove r eps prices owns

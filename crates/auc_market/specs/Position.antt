@@ -1,5 +1,6 @@
 -- What contracts see of a market, its invariants, and the result of each move.
 use Rattle.std.specs.Prelude.{Bool, true, ℕ, ℤ, pos, ◌≡◌, ◌≢◌, ◌⊎◌, ◌<◌, ◌≤◌, ◌≤ℤ◌, List, length}
+use Rattle.auc_claim.specs.declared.reason.Reason.{Reason}
 use Rattle.auc_graph.specs.Assignment.{total}
 use Rattle.auc_rows.specs.declared.arc.ShortArc.{ShortArc}
 use Rattle.auc_rows.specs.Rows.{EachHasArc, FlatTable, IsFlatTable}
@@ -77,7 +78,7 @@ pub record IsBid (person : ℕ) (old new : Position) (displaced : ℕ) : Type 0 
 pub record IsMove (person : ℕ) (old new : Position) (freed : ℕ) : Type 0 where
   pub table : new.table ≡ old.table
   pub eps : new.eps ≡ old.eps
-  pub augmented : IsAugmented old.table old.eps person old.prices new.prices new.holders old.owns new.owns freed
+  pub augmented : IsAugmented old.table old.eps person old.prices new.prices old.holders new.holders old.owns new.owns freed
 
 -- bids, with paths between them; of the bids allowed, this number is left
 pub record Spends (before left : ℕ) (old new : Position) : Type 0 where
@@ -90,19 +91,19 @@ pub record Spends (before left : ℕ) (old new : Position) : Type 0 where
 abbrev pub IsChain : ℕ → ℕ → Chain → Position → Position → Type 0
 IsChain first left Chain.Placed old new = (n : ℕ) → n ≤ length new.table.rows → HaveAllBut n old.owns first NOBODY → HaveObjects n new.owns
 IsChain first left Chain.Bids old new = left ≡ 0
-IsChain first left Chain.Ceiling old new = IsAbove new.table new.eps new.prices
+IsChain first left Chain.Ceiling old new = IsAbove new.table new.eps new.prices new.owns
 
 -- the first n persons have objects, but for one that waits; or a limit, as above
 abbrev pub AreServed : ℕ → ℕ → ℕ → Chain → Position → Type 0
 AreServed n left waits Chain.Placed new = (waits < length new.table.rows) × HaveAllBut n new.owns NOBODY waits
 AreServed n left waits Chain.Bids new = left ≡ 0
-AreServed n left waits Chain.Ceiling new = IsAbove new.table new.eps new.prices
+AreServed n left waits Chain.Ceiling new = IsAbove new.table new.eps new.prices new.owns
 
 -- all persons have objects; or a limit, as above
 abbrev pub AreSold : ℕ → Chain → Position → Type 0
 AreSold left Chain.Placed new = HaveObjects (length new.table.rows) new.owns
 AreSold left Chain.Bids new = left ≡ 0
-AreSold left Chain.Ceiling new = IsAbove new.table new.eps new.prices
+AreSold left Chain.Ceiling new = IsAbove new.table new.eps new.prices new.owns
 
 -- ---- phases
 
@@ -112,6 +113,7 @@ pub record IsSlice (bids : ℕ) (ending : Ending) (old new : Position) : Type 0 
   pub eps : new.eps ≡ old.eps
   pub ended : IsEnding old.table bids (state_at old) ending new.prices new.owns
   pub counted : AreCounted old.table old.eps bids ending (state_at old) (state_at new)
+  pub above : ending ≡ Ending.Stopped Reason.Ceiling → IsAbove new.table new.eps new.prices new.owns
 
 -- a phase of at most this number of bids, whole or in part
 pub record IsTried (bids : ℕ) (old new : Position) : Type 0 where
@@ -125,6 +127,7 @@ pub record IsPlayed (bids : ℕ) (before after : Bool) (ending : Ending) (old ne
   pub tried : IsTried bids old new
   pub sold : IsSold old.table ending new.owns
   pub ended : IsToldOr before after ending (IsEnding old.table bids (state_at old) ending new.prices new.owns)
+  pub above : ending ≡ Ending.Stopped Reason.Ceiling → IsAbove new.table new.eps new.prices new.owns
 
 -- The next phase begins at this eps: the prices stay, and no person holds an object. If each person held one, these
 -- arcs become the incumbent.

@@ -66,8 +66,8 @@ impl Holdings {
         ensures stands { Stands rows.now eps self.new.prices.items self.new.holders.items self.new.owns.items }
         ensures higher { AreHigher self.old.prices.items self.new.prices.items }
         ensures augmented { IfOk result
-            (λ w. IsAugmented rows.now eps person self.old.prices.items self.new.prices.items self.new.holders.items
-            self.old.owns.items self.new.owns.items w.free) }
+            (λ w. IsAugmented rows.now eps person self.old.prices.items self.new.prices.items
+            self.old.holders.items self.new.holders.items self.old.owns.items self.new.owns.items w.free) }
         ensures halt { IfErr result (IsHalt rows.now) }
     {
         // Read here, so that the proof has the invariant of the rows.

@@ -1,7 +1,8 @@
 //! The bid of a person at the present prices.
 
-ghost use Rattle.std.specs.Prelude.{true, false, ◌≡◌, ◌<◌, ◌+◌, ◌*◌, ◌^◌, pos, ◌+ℤ◌, ◌-ℤ◌, ◌*ℤ◌, ◌≤ℤ◌, ◌<ℤ◌, All};
+ghost use Rattle.std.specs.Prelude.{◌≡◌, ◌*◌, ◌^◌, pos, ◌+ℤ◌, ◌-ℤ◌, ◌*ℤ◌, ◌≤ℤ◌, ◌<ℤ◌, All, IfNone, IfSome};
 ghost use Rattle.std.specs.Prelude.{length};
+ghost use Rattle.auc_graph.specs.Dual.{price_at};
 ghost use Rattle.auc_graph.specs.Price.{IsPrice};
 ghost use Rattle.auc_letters.specs.Price.{IsEps};
 ghost use Rattle.auc_rows.specs.Rows.{flat_row_of, scale_in};
@@ -18,17 +19,6 @@ use auc_rows::{FlatRows, ShortArc};
 pub(crate) struct Bid {
     pub(crate) amount: i64,
     pub(crate) arc: ShortArc,
-}
-
-impl Bid {
-    /// Whether its amount is above the greatest price.
-    #[inline(always)]
-    pub(crate) fn is_too_high(self) -> bool
-        ensures above { result ≡ true → pos (2 ^ 61) <ℤ self.amount }
-        ensures within { result ≡ false → self.amount ≤ℤ pos (2 ^ 61) }
-    {
-        self.amount > MOST_PRICE
-    }
 }
 
 /// The spread of all costs, scaled.
@@ -51,7 +41,6 @@ fn margin_of(rows: &FlatRows, best: Best) -> i64
     ensures next { best.second <ℤ endless → result ≡ (best.second -ℤ best.value) }
     ensures only { endless ≤ℤ best.second → result ≡ scale_in rows.now *ℤ rows.now.spread }
     ensures low { pos 0 ≤ℤ result }
-    ensures high { result ≤ℤ pos (2 ^ 61 + 2 ^ 54) }
 {
     if best.second < i64::MAX {
         best.second - best.value
@@ -60,38 +49,64 @@ fn margin_of(rows: &FlatRows, best: Best) -> i64
     }
 }
 
-/// The price plus the margin to the second-best value plus eps.
+/// The least bid: the price plus eps.
 #[inline(always)]
-fn amount_of(price: i64, margin: i64, eps: i64) -> i64
+fn least_of(price: i64, eps: i64) -> i64
     requires price { IsPrice price }
-    requires margin_low { pos 0 ≤ℤ margin }
-    requires margin_high { margin ≤ℤ pos (2 ^ 61 + 2 ^ 54) }
     requires eps { IsEps eps }
-    ensures { result ≡ (price +ℤ margin) +ℤ eps }
+    ensures { result ≡ price +ℤ eps }
 {
-    price + margin + eps
+    price + eps
+}
+
+/// The least bid plus the margin to the second-best value, but no more than the greatest price.
+#[inline(always)]
+fn amount_of(least: i64, margin: i64) -> i64
+    requires low { pos 0 ≤ℤ least }
+    requires most { least ≤ℤ pos (2 ^ 61) }
+    requires margin { pos 0 ≤ℤ margin }
+    ensures low { least ≤ℤ result }
+    ensures high { result ≤ℤ (least +ℤ margin) }
+    ensures most { result ≤ℤ pos (2 ^ 61) }
+{
+    if margin < MOST_PRICE - least {
+        least + margin
+    } else {
+        MOST_PRICE
+    }
 }
 
 /// A person's bid at these prices, indexed by object. It is on the best arc, and so high that the arc's value is then
-/// eps above the second-best value. `eps` and `prices` are in scaled costs.
+/// eps above the second-best value, but no higher than the greatest price. None where even the least bid would be
+/// above that: the price plus eps. `eps` and `prices` are in scaled costs.
 ///
 /// O(1): the best arc is found before. The method is the bid of the auction algorithm (Bertsekas, 1979).
 #[inline(always)]
-pub(crate) fn bid_of(rows: &FlatRows, eps: i64, _person: u32, best: Best, prices: &[i64]) -> Bid
+pub(crate) fn bid_of(
+    rows: &FlatRows,
+    eps: i64,
+    _person: u32,
+    best: Best,
+    prices: &[i64],
+) -> Option<Bid>
     requires eps { IsEps eps }
     requires many { length prices.now ≡ rows.now.objects }
     requires prices { All IsPrice prices.now }
     requires best { IsBest (short_value (scale_in rows.now) prices.now) (flat_row_of rows.now _person) best }
-    ensures raise { IsRaise (scale_in rows.now) eps prices.now (flat_row_of rows.now _person) result.arc result.amount }
-    ensures offer { IsOffer (scale_in rows.now) rows.now.spread eps prices.now
-        (flat_row_of rows.now _person) result.arc result.amount }
+    ensures raise { IfSome result
+        (λ b. IsRaise (scale_in rows.now) eps prices.now (flat_row_of rows.now _person) b.arc b.amount) }
+    ensures offer { IfSome result (λ b. IsOffer (scale_in rows.now) rows.now.spread eps prices.now
+        (flat_row_of rows.now _person) b.arc b.amount) }
+    ensures within { IfSome result (λ b. b.amount ≤ℤ pos (2 ^ 61)) }
+    ensures above { IfNone result (pos (2 ^ 61) <ℤ (price_at prices.now best.arc.object +ℤ eps)) }
 {
     // Read here, so that the proof has the invariant of the rows.
     let _ = rows.persons();
     let arc = best.arc;
-    let margin = margin_of(rows, best);
-    Bid {
-        amount: amount_of(prices[arc.object as usize], margin, eps),
-        arc,
+    let least = least_of(prices[arc.object as usize], eps);
+    if least > MOST_PRICE {
+        return None;
     }
+    let amount = amount_of(least, margin_of(rows, best));
+    Some(Bid { amount, arc })
 }

@@ -204,13 +204,14 @@ impl<'a> Market<'a> {
         self.holdings.free_from(from, until, person, other)
     }
 
-    /// A free person bids and gets the object. Returns the holder before, or NOBODY. None where the bid would be above
-    /// the greatest price: nothing has changed then.
+    /// A free person bids and gets the object. Returns the holder before, or NOBODY. None where even the least bid would
+    /// be above the greatest price: nothing has changed then.
     #[inline(always)]
     pub(crate) fn bid(&mut self, person: u32) -> Option<u32>
         requires { IsFree self.old person }
         ensures bid { IfSome result (IsBid person self.old self.new) }
-        ensures above { IfNone result ((self.new ≡ self.old) × IsAbove self.old.table self.old.eps self.old.prices) }
+        ensures above { IfNone result
+            ((self.new ≡ self.old) × IsAbove self.old.table self.old.eps self.old.prices self.old.owns) }
     {
         let rows = self.rows;
         let lists = &mut self.lists;

@@ -5,7 +5,7 @@ ghost use Rattle.std.specs.Prelude.{◌≡◌, ◌≢◌, ◌<◌, ℤ, List, Is
 ghost use Rattle.auc_letters.specs.Price.{IsEps};
 ghost use Rattle.auc_rows.specs.Rows.{IsFlatTable};
 ghost use Rattle.auc_letters.specs.declared.limits.TheConstants.{NOBODY};
-ghost use Rattle.auc_market.specs.Market.{AreHigher, Stands, own_at};
+ghost use Rattle.auc_market.specs.Market.{AreHigher, AreUnsold, Stands, own_at};
 ghost use Rattle.auc_market.specs.Path.{AreRaised, AreRises, AreWithin, IsWithin};
 ghost use Rattle.auc_market.specs.Starts.{any_eps};
 ghost use Rattle.auc_market.specs.Augmented.{IsAugmented};
@@ -106,6 +106,8 @@ impl Holdings {
         requires stands { Stands rows.now eps self.old.prices.items self.old.holders.items self.old.owns.items }
         ensures stands { Stands rows.now eps self.new.prices.items self.new.holders.items self.new.owns.items }
         ensures higher { AreHigher self.old.prices.items self.new.prices.items }
+        ensures unsold { AreUnsold self.old.prices.items self.old.holders.items
+            → AreUnsold self.new.prices.items self.new.holders.items }
         ensures owns { self.new.owns.items ≡ self.old.owns.items }
     {
         if !self.may_rise(rises) {
@@ -128,8 +130,8 @@ impl Holdings {
         requires person { person < length rows.now.rows }
         requires stands { Stands rows.now eps self.old.prices.items self.old.holders.items self.old.owns.items }
         requires none { (own_at self.old.owns.items person).object ≡ NOBODY }
-        ensures { IsAugmented rows.now eps person self.old.prices.items self.new.prices.items self.new.holders.items
-            self.old.owns.items self.new.owns.items result }
+        ensures { IsAugmented rows.now eps person self.old.prices.items self.new.prices.items self.old.holders.items
+            self.new.holders.items self.old.owns.items self.new.owns.items result }
     {
         let row = rows.row(person);
         if place as usize >= row.len() {
@@ -157,8 +159,8 @@ impl Holdings {
         requires person { person < length rows.now.rows }
         requires stands { Stands rows.now eps self.old.prices.items self.old.holders.items self.old.owns.items }
         requires none { (own_at self.old.owns.items person).object ≡ NOBODY }
-        ensures { IsAugmented rows.now eps person self.old.prices.items self.new.prices.items self.new.holders.items
-            self.old.owns.items self.new.owns.items result }
+        ensures { IsAugmented rows.now eps person self.old.prices.items self.new.prices.items self.old.holders.items
+            self.new.holders.items self.old.owns.items self.new.owns.items result }
     {
         if !self.rise(rows, eps, rises) {
             return person;

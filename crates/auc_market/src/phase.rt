@@ -1,13 +1,9 @@
 //! A phase: the persons who have no object bid in order, two in turn, until each has one. It goes in slices. Before
 //! each slice the watch is asked whether the run goes on.
 
-ghost use Rattle.std.specs.Prelude.{ℕ, ℤ, List, true, false, ◌≡◌, ◌-◌, ◌<◌, ◌^◌, IfErr, IfOk, IfNone, IfSome};
+ghost use Rattle.std.specs.Prelude.{true, false, ◌≡◌, ◌≢◌, ◌-◌, ◌<◌, ◌^◌, IfErr, IfOk, IfNone, IfSome};
 ghost use Rattle.auc_claim.specs.declared.reason.Reason.{Reason};
-ghost use Rattle.auc_rows.specs.declared.arc.ShortArc.{ShortArc};
-ghost use Rattle.auc_rows.specs.Rows.{FlatTable};
 ghost use Rattle.auc_market.specs.declared.ending.Ending.{Ending};
-ghost use Rattle.auc_market.specs.Bids.{State};
-ghost use Rattle.auc_market.specs.Endings.{IsEnding};
 ghost use Rattle.auc_market.specs.Halts.{IsHalt};
 ghost use Rattle.auc_market.specs.Position.{IsPlayed, IsSlice, IsTried};
 
@@ -21,9 +17,7 @@ use auc_claim::Reason;
 /// Whether bids have run out. Any other ending of a slice is also the ending of its phase.
 fn ran_out(ending: Ending) -> bool
     ensures yes { result ≡ true → ending ≡ Ending.Stopped Reason.Bids }
-    ensures no { result ≡ false
-        → (r : FlatTable) (bids other : ℕ) (begun before : State) (prices : List ℤ) (owns : List ShortArc)
-        → IsEnding r bids begun ending prices owns → IsEnding r other before ending prices owns }
+    ensures no { result ≡ false → ending ≢ Ending.Stopped Reason.Bids }
 {
     match ending {
         Ending::Sold => false,
@@ -51,7 +45,10 @@ impl<'a> Market<'a> {
                 pace.made = pace.made.saturating_add(bids);
                 return Ok(Ending::Stopped(Reason::Bids));
             }
-            Chain::Ceiling => return Ok(Ending::Stopped(Reason::Ceiling)),
+            Chain::Ceiling => {
+                self.law();
+                return Ok(Ending::Stopped(Reason::Ceiling));
+            }
         }
         pace.made = pace.made.saturating_add(bids - left);
         Ok(Ending::Sold)

@@ -14,8 +14,8 @@ use crate::lists::Lists;
 use auc_rows::FlatRows;
 
 impl Holdings {
-    /// A person bids and gets the object; returns the holder before. None where the bid would be above the greatest
-    /// price.
+    /// A person bids and gets the object; returns the holder before. None where even the least bid would be above
+    /// the greatest price.
     #[inline(always)]
     pub(crate) fn step(
         &mut self,
@@ -41,10 +41,9 @@ impl Holdings {
     {
         let prices = self.prices.as_slice();
         let best = lists.best(rows, rows.scale(), person, prices);
-        let bid = bid_of(rows, eps, person, best, prices);
-        if bid.is_too_high() {
+        let Some(bid) = bid_of(rows, eps, person, best, prices) else {
             return None;
-        }
+        };
         Some(self.award(person, bid))
     }
 }

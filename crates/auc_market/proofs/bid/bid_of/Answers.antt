@@ -1,6 +1,6 @@
 use Rattle.std.proofs.Common.{ℕ, ◌<◌, ◌≡◌, arith, get_or, length, pos, refl, w64, rules}
-use Rattle.std.specs.Prelude.{FitsSigned, ℤ, ◌-ℤ◌, ◌*ℤ◌, ◌<ℤ◌, ◌≤ℤ◌}
-use Rattle.std.proofs.lemmas.Int.{to_z-of_z}
+use Rattle.std.specs.Prelude.{All, FitsSigned, List, ℤ, ◌-ℤ◌, ◌*ℤ◌, ◌<ℤ◌, ◌≤ℤ◌}
+use Rattle.std.proofs.lemmas.Int.{ints, to_z-of_z}
 use Rattle.std.proofs.lemmas.List.Elements.{All-contains, All-get_or}
 use Rattle.auc_graph.specs.Price.{IsPrice}
 use Rattle.auc_rows.specs.declared.arc.ShortArc.{ShortArc}
@@ -17,46 +17,64 @@ use Rattle.auc_graph.proofs.ValueBounds.{price_fits}
 best_below : (r : FlatTable) (val : ShortArc → ℤ) (i n : ℕ) (best : Best) → IsFlatTable r → n ≡ r.objects → IsBest val (flat_row_of r i) best → best.arc.object < n
 best_below r val i n best sound many is = let o = (All-contains (IsShort r.objects) (flat_row_of r i) best.arc (sound.each i) is.listed).object in omega (arith, o, many)
 
-pub amount_of-requires-clause-price : goal.amount_of-requires-clause-price
-amount_of-requires-clause-price c =
-    let below = best_below c.args.rows.now (short_value (scale_in c.args.rows.now) c.args.prices.now) c.args._person (length c.args.prices.now) c.args.best c.persons.ensures.sound c.requires.many c.requires.best in
-    let i = All-get_or IsPrice c.args.prices.now c.args.best.arc.object (pos 0) below c.requires.prices in
-    let f : FitsSigned w64 (get_or c.args.prices.now c.args.best.arc.object (pos 0)) = price_fits (get_or c.args.prices.now c.args.best.arc.object (pos 0)) i in
-    simp to_z-of_z i
+-- the price of the best arc's object
+price_in : (r : FlatTable) (val : ShortArc → ℤ) (prices : List ℤ) (i : ℕ) (best : Best) → IsFlatTable r → length prices ≡ r.objects → All IsPrice prices → IsBest val (flat_row_of r i) best → IsPrice (get_or prices best.arc.object (pos 0))
+price_in r val prices i best sound many within is = All-get_or IsPrice prices best.arc.object (pos 0) (best_below r val i (length prices) best sound many is) within
+
+pub amount_of-amount-requires-clause-low : goal.amount_of-amount-requires-clause-low
+amount_of-amount-requires-clause-low c =
+    let f1 : FitsSigned w64 c.args.eps = c.ranges.eps in
+    let f2 : FitsSigned w64 c.least_of-least.result = search rules in
+    let r = c.args.rows.now in
+    let i = price_in r (short_value (scale_in r) c.args.prices.now) c.args.prices.now c.args._person c.args.best c.persons.ensures.sound c.requires.many c.requires.prices c.requires.best in
+    let f3 : FitsSigned w64 (get_or c.args.prices.now c.args.best.arc.object (pos 0)) = price_fits (get_or c.args.prices.now c.args.best.arc.object (pos 0)) i in
+    let sum = simp to_z-of_z at c.least_of-least.ensures in
+    let low = i.low in
+    let some = c.requires.eps.low in
+    simp to_z-of_z (omega (arith, ints, sum, low, some))
 
 pub returns-clause-raise : goal.returns-clause-raise
 returns-clause-raise c =
-    let f2 : FitsSigned w64 c.args.eps = c.ranges.eps in
-    let f4 : FitsSigned w64 c.margin_of-margin.result = search rules in
-    let f6 : FitsSigned w64 c.amount_of.result = search rules in
+    let f1 : FitsSigned w64 c.args.eps = c.ranges.eps in
+    let f2 : FitsSigned w64 c.least_of-least.result = search rules in
+    let f4 : FitsSigned w64 c.margin_of.result = search rules in
+    let f6 : FitsSigned w64 c.amount_of-amount.result = search rules in
     let f7 : FitsSigned w64 c.args.best.value = search rules in
     let f8 : FitsSigned w64 c.args.best.second = search rules in
     let r = c.args.rows.now in
     let s = c.requires.best in
     let arc = c.args.best.arc in
-    let below = best_below r (short_value (scale_in r) c.args.prices.now) c.args._person (length c.args.prices.now) c.args.best c.persons.ensures.sound c.requires.many s in
-    let i = All-get_or IsPrice c.args.prices.now arc.object (pos 0) below c.requires.prices in
+    let val = short_value (scale_in r) c.args.prices.now in
+    let below = best_below r val c.args._person (length c.args.prices.now) c.args.best c.persons.ensures.sound c.requires.many s in
+    let i = price_in r val c.args.prices.now c.args._person c.args.best c.persons.ensures.sound c.requires.many c.requires.prices s in
     let f9 : FitsSigned w64 (get_or c.args.prices.now arc.object (pos 0)) = price_fits (get_or c.args.prices.now arc.object (pos 0)) i in
-    let next : c.args.best.second <ℤ endless → c.margin_of-margin.result ≡ (c.args.best.second -ℤ c.args.best.value) = search rules in
-    let only : endless ≤ℤ c.args.best.second → c.margin_of-margin.result ≡ (scale_in r *ℤ r.spread) = search rules in
-    let sum = simp to_z-of_z at c.amount_of.ensures in
-    let margin = margin_is (short_value (scale_in r) c.args.prices.now) (flat_row_of r c.args._person) c.args.best c.margin_of-margin.result (scale_in r *ℤ r.spread) s (scaled_low r c.persons.ensures.sound) next only in
-    simp to_z-of_z (raise_is (scale_in r) c.args.eps c.args.prices.now (flat_row_of r c.args._person) c.args.best c.margin_of-margin.result c.amount_of.result s margin below sum c.requires.eps.low)
+    let least = simp to_z-of_z at c.least_of-least.ensures in
+    let low = simp to_z-of_z at c.amount_of-amount.ensures.low in
+    let high = simp to_z-of_z at c.amount_of-amount.ensures.high in
+    let next : c.args.best.second <ℤ endless → c.margin_of.result ≡ (c.args.best.second -ℤ c.args.best.value) = search rules in
+    let margin = c.amount_of-amount.result -ℤ c.least_of-least.result in
+    let lead = margin_is val (flat_row_of r c.args._person) c.args.best margin s (omega (arith, ints, low)) (λ h. (let n = next h in omega (arith, ints, high, n))) in
+    simp to_z-of_z (raise_is (scale_in r) c.args.eps c.args.prices.now (flat_row_of r c.args._person) c.args.best margin c.amount_of-amount.result s lead below (omega (arith, ints, least)) c.requires.eps.low)
 
 pub returns-clause-offer : goal.returns-clause-offer
 returns-clause-offer c =
-    let f2 : FitsSigned w64 c.args.eps = c.ranges.eps in
-    let f4 : FitsSigned w64 c.margin_of-margin.result = search rules in
-    let f6 : FitsSigned w64 c.amount_of.result = search rules in
+    let f1 : FitsSigned w64 c.args.eps = c.ranges.eps in
+    let f2 : FitsSigned w64 c.least_of-least.result = search rules in
+    let f4 : FitsSigned w64 c.margin_of.result = search rules in
+    let f6 : FitsSigned w64 c.amount_of-amount.result = search rules in
     let f7 : FitsSigned w64 c.args.best.value = search rules in
     let f8 : FitsSigned w64 c.args.best.second = search rules in
     let r = c.args.rows.now in
     let s = c.requires.best in
     let arc = c.args.best.arc in
-    let below = best_below r (short_value (scale_in r) c.args.prices.now) c.args._person (length c.args.prices.now) c.args.best c.persons.ensures.sound c.requires.many s in
-    let i = All-get_or IsPrice c.args.prices.now arc.object (pos 0) below c.requires.prices in
+    let val = short_value (scale_in r) c.args.prices.now in
+    let i = price_in r val c.args.prices.now c.args._person c.args.best c.persons.ensures.sound c.requires.many c.requires.prices s in
     let f9 : FitsSigned w64 (get_or c.args.prices.now arc.object (pos 0)) = price_fits (get_or c.args.prices.now arc.object (pos 0)) i in
-    let next : c.args.best.second <ℤ endless → c.margin_of-margin.result ≡ (c.args.best.second -ℤ c.args.best.value) = search rules in
-    let only : endless ≤ℤ c.args.best.second → c.margin_of-margin.result ≡ (scale_in r *ℤ r.spread) = search rules in
-    let sum = simp to_z-of_z at c.amount_of.ensures in
-    simp to_z-of_z (offer_is (scale_in r) r.spread c.args.eps c.args.prices.now (flat_row_of r c.args._person) c.args.best c.margin_of-margin.result (scale_in r *ℤ r.spread) c.amount_of.result s next only (scaled_low r c.persons.ensures.sound) refl sum)
+    let least = simp to_z-of_z at c.least_of-least.ensures in
+    let low = simp to_z-of_z at c.amount_of-amount.ensures.low in
+    let high = simp to_z-of_z at c.amount_of-amount.ensures.high in
+    let next : c.args.best.second <ℤ endless → c.margin_of.result ≡ (c.args.best.second -ℤ c.args.best.value) = search rules in
+    let only : endless ≤ℤ c.args.best.second → c.margin_of.result ≡ (scale_in r *ℤ r.spread) = search rules in
+    let margin = c.amount_of-amount.result -ℤ c.least_of-least.result in
+    simp to_z-of_z (offer_is (scale_in r) r.spread c.args.eps c.args.prices.now (flat_row_of r c.args._person) c.args.best margin (scale_in r *ℤ r.spread) c.amount_of-amount.result s
+    (λ h. (let n = next h in omega (arith, ints, high, n))) (λ h. (let o = only h in omega (arith, ints, high, o))) (omega (arith, ints, low)) (scaled_low r c.persons.ensures.sound) refl (omega (arith, ints, least)))

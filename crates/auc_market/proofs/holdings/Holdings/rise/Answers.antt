@@ -1,7 +1,7 @@
 use Rattle.std.proofs.Common.{◌≡◌, refl, w64, ◌∙◌}
 use Rattle.std.specs.Prelude.{FitsSigned}
 use Rattle.std.proofs.lemmas.Int.{to_z-of_z}
-use Rattle.auc_market.proofs.Augmentations.{higher_same, raised_any, raised_stands}
+use Rattle.auc_market.proofs.Augmentations.{higher_same, raised_any, raised_stands, raised_unsold}
 use Rattle.auc_market.proofs.holdings.Holdings.rise.Goals as goal
 use Rattle.auc_market.proofs.holdings.Holdings.rise.Goals.{After-take_back}
 
@@ -15,6 +15,10 @@ returns-then-are_within-clause-stands c =
     let within = rw (c.raise.ensures.holders, c.raise.ensures.owns) at (simp to_z-of_z at (c.if-are_within.ensures refl)) in
     rw (c.raise.ensures.holders, c.raise.ensures.owns) (raised_stands c.args.self.now.prices.items c.args.self.now.holders.items c.may_rise.new.rises (c.if-not-may_rise.ensures refl) c.args.rows.now c.args.eps c.raise.new.self.prices.items c.args.self.now.owns.items c.requires.sound c.requires.stands c.raise.ensures.raised within)
 
+pub returns-then-are_within-clause-unsold : goal.returns-then-are_within-clause-unsold
+returns-then-are_within-clause-unsold c =
+    rw c.raise.ensures.holders (raised_unsold c.args.self.now.prices.items c.args.self.now.holders.items c.may_rise.new.rises (c.if-not-may_rise.ensures refl) c.args.rows.now c.args.eps c.raise.new.self.prices.items c.args.self.now.owns.items c.requires.sound c.requires.stands c.raise.ensures.raised)
+
 same_prices : (c : After-take_back) → c.take_back.new.self.prices.items ≡ c.args.self.now.prices.items
 same_prices c = c.take_back.ensures.prices c.args.self.now.prices.items (rw c.raise.ensures.holders (c.if-not-may_rise.ensures refl)) c.raise.ensures.raised
 
@@ -23,3 +27,6 @@ returns-clause-stands c = rw (same_prices c, c.take_back.ensures.holders ∙ c.r
 
 pub returns-clause-higher : goal.returns-clause-higher
 returns-clause-higher c = rw (same_prices c) (higher_same c.args.self.now.prices.items)
+
+pub returns-clause-unsold : goal.returns-clause-unsold
+returns-clause-unsold c = rw (same_prices c, c.take_back.ensures.holders ∙ c.raise.ensures.holders) (λ u. u)

@@ -18,7 +18,7 @@ module _ (r : FlatTable) (eps : ℤ) (person : ℕ) (prices new : List ℤ) (hol
   bid_by (Some d) a m = record { table = refl; eps = refl; awarded = a; made = m }
   bid_by None a m = tt
 
-  above_by : (o : Option ℕ) → IfNone o (IsTooHigh r eps prices new holders sold owns left) → IfNone o ((position r eps new sold left has once ≡ position r eps prices holders owns has once) × IsAbove r eps prices)
+  above_by : (o : Option ℕ) → IfNone o (IsTooHigh r eps prices new holders sold owns left) → IfNone o ((position r eps new sold left has once ≡ position r eps prices holders owns has once) × IsAbove r eps prices owns)
   above_by (Some d) h = tt
   above_by None h = rw (h.prices_are, h.holders_are, h.owns_are) (refl, h.above)
 

@@ -11,7 +11,7 @@ use Rattle.auc_market.proofs.Shortlists.{kept_rises}
 use Rattle.auc_market.proofs.market.Market.path.Goals as goal
 
 module _ {Y : Type 0} (r : FlatTable) (eps : ℤ) (person : ℕ) (prices new : List ℤ) (holders sold : List ℕ) (owns left : List ShortArc) (has : Bool) (once : List ShortArc) where
-  move_by : (o : Result Augmented Y) → IfOk o (λ w. IsAugmented r eps person prices new sold owns left w.free) → IfOk o (λ w. IsMove person (position r eps prices holders owns has once) (position r eps new sold left has once) w.free)
+  move_by : (o : Result Augmented Y) → IfOk o (λ w. IsAugmented r eps person prices new holders sold owns left w.free) → IfOk o (λ w. IsMove person (position r eps prices holders owns has once) (position r eps new sold left has once) w.free)
   move_by (Ok w) augmented = record { table = refl; eps = refl; augmented = augmented }
   move_by (Err x) augmented = tt
 

@@ -3,7 +3,7 @@ use Rattle.auc_market.specs.declared.ending.Ending.{Ending}
 use Rattle.auc_market.specs.Endings.{IsEnding}
 use Rattle.auc_market.specs.Position.{state_at}
 use Rattle.auc_market.proofs.EndingLaws.{ending_sold}
-use Rattle.auc_market.proofs.Moving.{all_spent, slice_tried, spends_none, spends_slice, spent_tried}
+use Rattle.auc_market.proofs.Moving.{all_spent, slice_ending, slice_tried, spends_none, spends_slice, spent_tried}
 use Rattle.auc_market.proofs.market.Market.play.Goals as goal
 
 pub loop-bids-init : goal.loop-bids-init
@@ -24,6 +24,7 @@ returns-then-not-may_go_on-clause-played g c = record {
   tried = spent_tried c.args.bids c.loop-bids.left c.args.self.now c.loop-bids.self c.law.ensures c.loop-bids.invariant.spends;
   sold = tt;
   ended = inl (c.may_go_on.ensures.no (search rules), refl);
+  above = λ e. absurd cc;
 }
 
 pub returns-then-not-ran_out-clause-played : goal.returns-then-not-ran_out-clause-played
@@ -34,11 +35,12 @@ returns-then-not-ran_out-clause-played g c =
     let old = c.args.self.now in
     let new = c.play_slice.new.self in
     let slice = c.in_ok-ending.ensures.slice in
-    let is = c.if-not-ran_out.ensures.no refl old.table c.min-slice.result c.args.bids (state_at c.loop-bids.self) (state_at old) new.prices new.owns (rw inv.spends.table at slice.ended) in
+    let is = slice_ending c.args.bids c.loop-bids.left c.min-slice.result c.in_ok-ending.ending old c.loop-bids.self new c.law.ensures (c.if-not-ran_out.ensures.no refl) le inv.spends slice in
     record {
       tried = slice_tried c.args.bids c.loop-bids.left c.min-slice.result c.in_ok-ending.ending old c.loop-bids.self new c.law.ensures le inv.spends slice;
       sold = ending_sold old.table c.args.bids (state_at old) c.in_ok-ending.ending new.prices new.owns is;
       ended = inr (c.may_go_on.ensures.yes on ∙ inv.asked, is);
+      above = slice.above;
     }
 
 pub returns-then-left-eq0-clause-played : goal.returns-then-left-eq0-clause-played
@@ -56,4 +58,5 @@ returns-then-left-eq0-clause-played g c =
       tried = spent_tried c.args.bids (c.loop-bids.left - c.min-slice.result) old new c.law.ensures spends;
       sold = ending_sold old.table c.args.bids (state_at old) c.in_ok-ending.ending new.prices new.owns is;
       ended = inr (c.may_go_on.ensures.yes on ∙ inv.asked, is);
+      above = slice.above;
     }

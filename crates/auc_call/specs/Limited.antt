@@ -1,18 +1,18 @@
 -- A direct run leaves a bracket only where one of its limits has stopped it.
-use Rattle.std.specs.Prelude.{◌≡◌, ℕ, ℤ, pos, List, [], ◌∷◌}
+use Rattle.std.specs.Prelude.{◌≡◌, ℕ, ℤ, List, [], ◌∷◌}
 use Rattle.auc_graph.specs.Problem.{Problem}
 use Rattle.auc_claim.specs.declared.lists.Pick.{Pick}
 use Rattle.auc_claim.specs.declared.reason.Reason.{Reason}
 use Rattle.auc_claim.specs.declared.cert.CertParts.{CertParts}
 use Rattle.auc_claim.specs.Claim.{chosen}
 use Rattle.auc_answers.specs.declared.answer.Answer.{Answer}
-use Rattle.auc_direct.specs.Endings.{IsLimited, IsLimitedFrom}
+use Rattle.auc_direct.specs.Endings.{IsLimitedFirst, IsLimitedFrom}
 use Rattle.auc_call.specs.Codes.{limit_kind}
 use Rattle.auc_call.specs.Memory.{AreAt}
 
--- of a run by so many bids from these prices, or from nothing where there are none
+-- of a run by so many bids from these prices, or without a start where there are none
 abbrev pub IsLimitedIn : Problem → List ℤ → ℕ → Answer → Type 0
-IsLimitedIn p [] bids answer = IsLimited p bids (pos 0) answer
+IsLimitedIn p [] bids answer = IsLimitedFirst p bids answer
 IsLimitedIn p (price ∷ prices) bids answer = IsLimitedFrom p bids (price ∷ prices) answer
 
 -- these places and prices are a bracket that this limit of such a run has left

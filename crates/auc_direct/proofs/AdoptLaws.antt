@@ -1,5 +1,5 @@
 -- The result of adopting a proposal.
-use Rattle.std.proofs.Common.{ℕ, ℤ, pos, w64, ◌+◌, ◌<◌, ◌≤◌, arith, List, length, get_or, set, inl, inr, ap, sym, subst, ◌∙◌}
+use Rattle.std.proofs.Common.{ℕ, ℤ, pos, w64, ◌+◌, ◌<◌, ◌≤◌, arith, List, length, set, inl, inr, ap, sym, subst, ◌∙◌}
 use Rattle.std.specs.Prelude.{All, FitsSigned, ◌*◌, ◌^◌, ◌*ℤ◌, ◌≤ℤ◌, unsigned_abs}
 use Rattle.std.proofs.lemmas.Bool.{cases_eq}
 use Rattle.std.proofs.lemmas.Int.{ints}

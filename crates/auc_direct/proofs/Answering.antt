@@ -1,6 +1,6 @@
 -- The result of the last phase is an answer.
 use Rattle.std.proofs.Common.{Bool, true, false, ℕ, ℤ, pos, ◌≡◌, ◌<◌, refl, arith, inl, inr, List, [], ◌∷◌, length, get_or, map, Contains, Option, Some, ap, sym, subst, ◌∙◌}
-use Rattle.std.specs.Prelude.{IfOk, Result, Ok, Err, ◌⊎◌}
+use Rattle.std.specs.Prelude.{All, IfOk, Result, Ok, Err, ◌⊎◌}
 use Rattle.std.specs.List.{slice_get}
 use Rattle.std.proofs.lemmas.Bool.{cases_lt, false≢true}
 use Rattle.std.proofs.lemmas.Int.{ints}
@@ -15,6 +15,7 @@ use Rattle.auc_claim.proofs.Converse.{assignment_in_range, slack_right_faultless
 use Rattle.auc_graph.specs.Assignment.{IsAssignment, total, total_cost}
 use Rattle.auc_graph.specs.declared.arc.Arc.{Arc}
 use Rattle.auc_graph.specs.Problem.{IsProblem, Problem}
+use Rattle.auc_graph.specs.Price.{IsPrice}
 use Rattle.auc_graph.specs.Row.{row}
 use Rattle.auc_graph.specs.Table.{IsTableOf, Table}
 use Rattle.auc_graph.specs.declared.rows.RowArc.{RowArc}
@@ -31,7 +32,7 @@ use Rattle.auc_rows.specs.declared.arc.ShortArc.{ShortArc}
 use Rattle.auc_rows.specs.Rows.{AreRowsOf, AreSameRows, EachHasArc, FlatTable, IsFlatTable, flat_row_of, short, short_row}
 use Rattle.auc_market.specs.declared.ending.Ending.{Ending}
 use Rattle.auc_direct.specs.Adopted.{IsFullTable}
-use Rattle.auc_direct.specs.Endings.{IsAsked, AreAdopted, AreFirst, AreOfRun, HasReason, IsClaimOfFirst, IsClaimOfRun, IsLimited, IsLimitedBy, IsLimitedFrom, IsLimitedUnless, IsOfFirstPhases, IsOfPhases, IsOfPhasesFrom}
+use Rattle.auc_direct.specs.Endings.{IsAsked, AreAdopted, AreFirst, AreOfRun, HasReason, IsBracketFor, IsClaimOfFirst, IsClaimOfRun, IsLimited, IsLimitedBy, IsLimitedFirst, IsLimitedFrom, IsLimitedUnless, IsOfFirstPhases, IsOfPhases, IsOfPhasesFrom, IsWideProblem}
 use Rattle.auc_direct.specs.Told.{IsTold}
 use Rattle.auc_market.specs.Endings.{IsLeft, IsStart, IsStopped, IsToldOr}
 use Rattle.auc_direct.specs.Phases.{HasRun}
@@ -41,7 +42,8 @@ use Rattle.auc_market.specs.Bids.{State}
 use Rattle.auc_market.specs.Market.{HaveObjects, Stands, holder_at, own_at}
 use Rattle.auc_market.specs.Starts.{AreOpened}
 use Rattle.auc_direct.proofs.Choices as choices
-use Rattle.auc_market.proofs.MarketLaws.{holder_has, owner_below}
+use Rattle.auc_market.proofs.MarketLaws.{holder_has, owner_below, total_low}
+use Rattle.auc_direct.proofs.EndingLaws.{limited_earlier}
 
 -- ---- there is no assignment
 
@@ -71,7 +73,7 @@ module _ (p : Problem) (r : FlatTable) (rows : AreRowsOf p r) (prices : List ℤ
 
   none_told : (ending : Ending) (answer : Answer) → IsInfeasibleAnswer p answer → IsTold p r ending prices answer
   none_told ending (Answer.Optimal cert) h = absurd h
-  none_told ending (Answer.Infeasible cert) h = record { is = h; limited = λ bids begun stopped. tt; told = λ stopped. tt; run = λ bids begun run. tt }
+  none_told ending (Answer.Infeasible cert) h = record { is = h; limited = λ bids begun stopped. tt; told = λ stopped. tt; why = λ bracket. absurd bracket; run = λ bids begun run. tt }
   none_told ending (Answer.Bracket cert) h = absurd h
   none_told ending (Answer.Broken guard) h = absurd h
 
@@ -85,6 +87,7 @@ module _ (p : Problem) (r : FlatTable) (rows : AreRowsOf p r) (prices : List ℤ
         is = record { reason = reason; lower = by.lower; cost = total_cost by.choice; choice = map pick_of by.choice; prices = prices; is = by.is; certified = h.1 };
         limited = λ bids begun limit. subst (IsLimitedBy p bids (total begun.prices)) (sym by.is) (rows.table, r, begun, rows.of, rows.same, omega (arith, ints), limit);
         told = λ stopped. subst (HasReason Reason.Bids) (sym by.is) (let e : Ending.Stopped reason ≡ Ending.Stopped Reason.Bids = stopped in cc);
+        why = λ bracket. ap Ending.Stopped (subst (HasReason Reason.Ceiling) by.is bracket);
         run = λ bids begun run. subst (IsClaimOfRun p bids begun) (sym by.is) (r, run.0, rows, run.1, run.2);
       }
   whole_told reason (Answer.Broken guard) h = absurd h
@@ -113,6 +116,7 @@ module _ (p : Problem) (r : FlatTable) (rows : AreRowsOf p r) (prices : List ℤ
         is = record { cost = total_cost h.0; choice = map pick_of h.0; prices = prices; is = h.2; certified = h.3 };
         limited = λ bids begun stopped. tt;
         told = λ stopped. absurd (let e : Ending.Sold ≡ Ending.Stopped Reason.Bids = stopped in cc);
+        why = λ bracket. absurd bracket;
         run = λ bids begun run. subst (IsClaimOfRun p bids begun) (sym h.2) (sold_by bids begun run);
       }
       sold_told (Answer.Infeasible cert) h = absurd h
@@ -186,7 +190,7 @@ arc_for i arcs a c =
     ap (slice_get arcs) place ∙ slice_get-get_or arcs f.0 arc f.1 ∙ ap Some (f.3 arc)
 
 -- the arc of a row is one of the problem
-listed_at : (p : Problem) (i : ℕ) (s : ShortArc) → Contains (short_row i p.arcs) s → Contains p.arcs (arc_by i s)
+pub listed_at : (p : Problem) (i : ℕ) (s : ShortArc) → Contains (short_row i p.arcs) s → Contains p.arcs (arc_by i s)
 listed_at p i s (k, l, e) =
     let none : RowArc = record { cost = pos 0; object = 0; arc = 0 } in
     let lt : k < length (row i p.arcs) = (let m = length-map (row i p.arcs) short in omega (arith, l, m)) in
@@ -207,7 +211,7 @@ module _ (p : Problem) (r : FlatTable) (rows : AreRowsOf p r) where
   pub objects_are : r.objects ≡ p.objects
   objects_are = rows.same.objects ∙ rows.of.objects
 
-  row_at : (i : ℕ) → i < p.persons → flat_row_of r i ≡ short_row i p.arcs
+  pub row_at : (i : ℕ) → i < p.persons → flat_row_of r i ≡ short_row i p.arcs
   row_at i lt = rows.same.rows i (let f = length-rows p rows.table rows.of in omega (arith, lt, f)) ∙ ap (map short) (row_is p rows.table rows.of i lt)
 
   pub each_has_arc : EachHasRow p → EachHasArc r
@@ -290,3 +294,14 @@ phases_from p t r bids start begun its same opened answer run = record {
   opened = record { each = opened.each; same = λ e. opened.same (let a = its.objects in let b = same.objects in let c = same.persons in let d = length-rows p t its in omega (arith, a, b, c, d, e)); kept = opened.kept };
   run = run;
 }
+
+-- ---- the greatest price
+
+-- the limit of a run without a start, however high its first prices were
+pub first_limited : {E : Type 0} (before after : Bool) (p : Problem) (bids : ℕ) (begun : List ℤ) (result : Result Answer E) → All IsPrice begun → IfOk result (λ a. IsLimitedUnless before after a (IsLimited p bids (total begun) a)) → IfOk result (λ a. IsBracketFor Reason.Ceiling a → IsWideProblem p) → IfOk result (λ a. IsLimitedUnless before after a (IsLimitedFirst p bids a))
+first_limited before after p bids begun (Err e) within limit ceiling = tt
+first_limited before after p bids begun (Ok a) within limit ceiling = by limit
+  where
+    by : IsLimitedUnless before after a (IsLimited p bids (total begun) a) → IsLimitedUnless before after a (IsLimitedFirst p bids a)
+    by (inl told) = inl told
+    by (inr is) = inr (is.0, record { limited = limited_earlier p bids (pos 0) (total begun) a (total_low begun within) is.1; ceiling = ceiling })

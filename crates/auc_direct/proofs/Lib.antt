@@ -3,5 +3,6 @@ mod Choices
 mod HallLaws
 mod EndingLaws
 mod Answering
+mod Ceilings
 mod Running
 mod AdoptLaws

@@ -1,5 +1,5 @@
 -- Phases of a run, one after another, and what they leave.
-use Rattle.std.proofs.Common.{Bool, ap, ℕ, ℤ, pos, refl, ◌≡◌, ◌∙◌, arith, List, inl, inr, length, sym, subst}
+use Rattle.std.proofs.Common.{Bool, ap, ℕ, ℤ, pos, refl, ◌≡◌, ◌∙◌, arith, List, inl, inr, length, replicate, sym, subst}
 use Rattle.std.specs.Prelude.{◌⊎◌}
 use Rattle.std.proofs.lemmas.Int.{ints}
 use Rattle.auc_claim.specs.declared.reason.Reason.{Reason}
@@ -8,7 +8,7 @@ use Rattle.auc_rows.specs.declared.arc.ShortArc.{ShortArc}
 use Rattle.auc_rows.specs.Rows.{FlatTable}
 use Rattle.auc_market.specs.declared.ending.Ending.{Ending}
 use Rattle.auc_market.specs.Bids.{State}
-use Rattle.auc_market.specs.Endings.{IsEnding, IsLeft, IsSold, IsStopped, IsToldOr}
+use Rattle.auc_market.specs.Endings.{IsEnding, IsLeft, IsSold, IsStart, IsStopped, IsToldOr}
 use Rattle.auc_direct.specs.Endings.{IsOutcome}
 use Rattle.auc_market.specs.Market.{HaveObjects, Stands}
 use Rattle.auc_market.specs.Phases.{ArePhases, IsOpened, IsPhase, IsRun}
@@ -17,6 +17,7 @@ use Rattle.auc_market.specs.Phases.ArePhases.{begins, opens, refines}
 use Rattle.auc_market.specs.Position.{AreHandedOn, IsBegun, IsPlayed, IsRefinedWhole, IsRefinement, IsTried, Law, Position, state_at}
 use Rattle.auc_direct.specs.Runs.{IsPlayedAt, IsRunOut, Plays}
 use Rattle.auc_market.proofs.EndingLaws.{sold_left, stopped_before, watched_stopped}
+use Rattle.auc_market.proofs.Opening.{start_none}
 use Rattle.auc_market.proofs.PhasesLaws.{one_phase, opened_phase, phases_on}
 
 pub not_sold : (reason : Reason) → Ending.Stopped reason ≡ Ending.Sold → ⊥
@@ -135,3 +136,8 @@ outcome_of r bids before after ending a b prices holders owns table is h =
       stopped = told_from before after ending r bids (state_at a) prices (rw same (rw table at is.stopped));
       run = run_ended r bids a.prices ending (state_at b) prices (sym same) (record { first = state_at a; begun_are = refl; phases = rw table at is.phases });
     }
+
+-- ---- prices of 0
+
+pub zero_start : (r : FlatTable) → IsStart r (pos 1) (replicate r.objects (pos 0))
+zero_start r = start_none r (pos 1) r.objects (replicate r.objects (pos 0)) refl refl (inr refl)

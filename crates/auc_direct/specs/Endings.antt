@@ -12,6 +12,7 @@ use Rattle.auc_rows.specs.declared.arc.ShortArc.{ShortArc}
 use Rattle.auc_rows.specs.Rows.{AreRowsOf, AreSameRows, FlatTable}
 use Rattle.auc_market.specs.declared.ending.Ending.{Ending}
 use Rattle.auc_market.specs.Bids.{State}
+use Rattle.auc_market.specs.Ceiling.{AreSpread, IsMatching, IsWide}
 use Rattle.auc_direct.specs.Adopted.{IsFullTable}
 use Rattle.auc_direct.specs.Phases.{HasRun, IsAdopted}
 use Rattle.auc_market.specs.Phases.{IsRun}
@@ -24,6 +25,11 @@ pub record IsOutcome (r : FlatTable) (bids : ℕ) (begun : List ℤ) (before aft
   pub left : IsLeft r ending prices holders owns
   pub stopped : IsToldOr before after ending ((first : State) × (first.prices ≡ begun) × IsStopped r bids first ending prices)
   pub run : HasRun r bids begun ending prices
+
+-- where the greatest price ends the last phase, the rows are wide or have no full matching
+abbrev pub IsCeilingWide : FlatTable → Ending → Type 0
+IsCeilingWide r ending =
+    ending ≡ Ending.Stopped Reason.Ceiling → (choice : ℕ → ShortArc) → AreSpread r → IsMatching r choice → IsWide r (pos 1)
 
 abbrev pub IsLimitedBy : Problem → ℕ → ℤ → CertParts → Type 0
 IsLimitedBy p bids begun (CertParts.Optimal cost choice prices) = Unit {0}
@@ -39,17 +45,34 @@ IsLimited p bids begun (Answer.Infeasible cert) = Unit {0}
 IsLimited p bids begun (Answer.Bracket cert) = IsLimitedBy p bids begun cert
 IsLimited p bids begun (Answer.Broken guard) = Unit {0}
 
--- the same of a run from start prices: the sum is that of what the opening has left of them
-pub record IsLimitedFrom (p : Problem) (bids : ℕ) (start : List ℤ) (answer : Answer) : Type 0 where
-  pub begun : List ℤ
-  pub opened : AreOpened p.objects p.persons start begun
-  pub limited : IsLimited p bids (total begun) answer
-
 -- the certificate is a bracket with this reason
 abbrev pub HasReason : Reason → CertParts → Type 0
 HasReason reason (CertParts.Optimal cost choice prices) = ⊥
 HasReason reason (CertParts.Infeasible persons objects) = ⊥
 HasReason reason (CertParts.Bracket told lower cost choice prices) = told ≡ reason
+
+-- The problem has prices that may have to pass the greatest one: persons times the scaled spread of its costs, and what
+-- eps adds at 1.
+abbrev pub IsWideProblem : Problem → Type 0
+IsWideProblem p = (r : FlatTable) × AreRowsOf p r × IsWide r (pos 1)
+
+-- the answer is a bracket for this reason
+abbrev pub IsBracketFor : Reason → Answer → Type 0
+IsBracketFor reason (Answer.Optimal cert) = ⊥
+IsBracketFor reason (Answer.Infeasible cert) = ⊥
+IsBracketFor reason (Answer.Bracket cert) = HasReason reason cert
+IsBracketFor reason (Answer.Broken guard) = ⊥
+
+-- the same of a run without a start, which the greatest price ends in a wide problem alone
+pub record IsLimitedFirst (p : Problem) (bids : ℕ) (answer : Answer) : Type 0 where
+  pub limited : IsLimited p bids (pos 0) answer
+  pub ceiling : IsBracketFor Reason.Ceiling answer → IsWideProblem p
+
+-- the same of a run from start prices: the sum is that of what the opening has left of them
+pub record IsLimitedFrom (p : Problem) (bids : ℕ) (start : List ℤ) (answer : Answer) : Type 0 where
+  pub begun : List ℤ
+  pub opened : AreOpened p.objects p.persons start begun
+  pub limited : IsLimited p bids (total begun) answer
 
 -- the answer after a watch has stopped the run: a bracket, with the reason that bids ran out; or that there is no
 -- assignment

@@ -1,17 +1,24 @@
 //! A run: its phases one after another, as the rules choose them (epsilon scaling).
 
-ghost use Rattle.std.specs.Prelude.{true, ◌≡◌, ◌⊎◌, ◌<◌, ◌-◌, ◌^◌, length, IfErr, IfNone, IfOk, IfSome, OnOk};
+ghost use Rattle.std.specs.Prelude.{true, false, ℤ, List, pos, ◌≡◌, ◌≢◌, ◌⊎◌, ◌<◌, ◌-◌, ◌^◌, length};
+ghost use Rattle.std.specs.Prelude.{IfErr, IfNone, IfOk, IfSome, OnOk};
+ghost use Rattle.auc_claim.specs.declared.reason.Reason.{Reason};
+ghost use Rattle.auc_market.specs.Endings.{IsStart};
+ghost use Rattle.auc_market.specs.declared.ending.Ending.{Ending};
+ghost use Rattle.auc_rows.specs.Rows.{EachHasArc};
 ghost use Rattle.auc_market.specs.Eps.{IsEpsOf};
 ghost use Rattle.auc_market.specs.Halts.{IsHalt};
 ghost use Rattle.auc_market.specs.Position.{Begins};
 ghost use Rattle.auc_direct.specs.Adopted.{IsFullTable};
-ghost use Rattle.auc_direct.specs.Endings.{IsOutcome};
+ghost use Rattle.auc_direct.specs.Endings.{IsCeilingWide, IsOutcome};
 ghost use Rattle.auc_direct.specs.Runs.{IsPlayedAt, IsRunOut, Plays};
 
 use crate::adopt::adopted;
 use crate::eps::{coarse_eps, fine_eps, next_eps};
+use crate::reduce::start_prices;
 use crate::rules::{Rules, scans_of_table};
 use crate::tuning::{PACING, SPREAD_ROWS};
+use auc_claim::Reason;
 use auc_market::{Ending, Halt, Holdings, LAST_EPS, Market, Pace, Watch};
 use auc_rows::FlatRows;
 use std::alloc::Global;
@@ -147,4 +154,75 @@ pub(crate) fn run<W: Watch>(
         ending,
         holdings: market.into_holdings(ending),
     })
+}
+
+/// Whether the greatest price has ended a run.
+fn is_at_ceiling(ending: Ending) -> bool
+    ensures yes { result ≡ true → ending ≡ Ending.Stopped Reason.Ceiling }
+    ensures no { result ≡ false → ending ≢ Ending.Stopped Reason.Ceiling }
+{
+    match ending {
+        Ending::Sold => false,
+        Ending::Stopped(reason) => match reason {
+            Reason::Ceiling => true,
+            Reason::Bids => false,
+            Reason::Posts => false,
+            Reason::Trail => false,
+            Reason::Mail => false,
+        },
+    }
+}
+
+/// One phase, at the last eps, from prices of 0. Objects that nobody holds keep price 0 in it, so prices rise no higher
+/// than they have to: clause `ceiling`.
+fn run_from_zero<W: Watch>(
+    alloc: Global,
+    rows: &FlatRows,
+    bids: u64,
+    watch: &mut W,
+) -> Result<Outcome, Halt>
+    requires arcs { EachHasArc rows.now }
+    ensures outcome { (begun : List ℤ) × IsStart rows.now (pos 1) begun × IfOk result
+        (λ o. IsOutcome rows.now bids begun (W.has_stopped watch.old) (W.has_stopped watch.new)
+        o.ending o.holdings.prices.items o.holdings.holders.items o.holdings.owns.items) }
+    ensures ceiling { IfOk result (λ o. IsCeilingWide rows.now o.ending) }
+    ensures asked { IfOk result (λ o. W.was_asked watch.new ≡ true) }
+    ensures halt { IfErr result (λ h. IsHalt rows.now h × (W.has_stopped watch.new ≡ W.has_stopped watch.old)) }
+{
+    let prices = vec![in alloc; 0; rows.objects() as usize]?;
+    let mut market = Market::new(alloc, rows, prices)?;
+    market.law();
+    let mut pace = Pace::new(rows, PACING);
+    let ending = market.play(bids, &mut pace, watch)?;
+    market.law();
+    Ok(Outcome {
+        ending,
+        holdings: market.into_holdings(ending),
+    })
+}
+
+/// A run without a start. Where the greatest price ends it, a phase from prices of 0 takes its place: in the phases
+/// before, prices may have risen higher than they have to.
+pub(crate) fn run_first<W: Watch>(
+    alloc: Global,
+    rows: &FlatRows,
+    bids: u64,
+    watch: &mut W,
+) -> Result<Outcome, Halt>
+    requires arcs { EachHasArc rows.now }
+    ensures outcome { (begun : List ℤ) × IsStart rows.now (pos 1) begun × IfOk result
+        (λ o. IsOutcome rows.now bids begun (W.has_stopped watch.old) (W.has_stopped watch.new)
+        o.ending o.holdings.prices.items o.holdings.holders.items o.holdings.owns.items) }
+    ensures ceiling { IfOk result (λ o. IsCeilingWide rows.now o.ending) }
+    ensures asked { IfOk result (λ o. (W.was_asked watch.new ≡ true) ⊎ IsFullTable rows.now) }
+    ensures halt { IfErr result (λ h. IsHalt rows.now h × (W.has_stopped watch.new ≡ W.has_stopped watch.old)) }
+{
+    let prices = start_prices(alloc, rows)?;
+    let market = Market::new(alloc, rows, prices)?;
+    let outcome = run(alloc, rows, bids, market, 0, watch)?;
+    if !is_at_ceiling(outcome.ending) {
+        return Ok(outcome);
+    }
+    drop(outcome);
+    run_from_zero(alloc, rows, bids, watch)
 }

@@ -9,8 +9,9 @@ ghost use Rattle.auc_answers.specs.Answers.{HasAssignment, IsAnswer, IsBracketAn
 ghost use Rattle.auc_rows.specs.Rows.{AreRowsOf, EachHasArc, FlatTable, IsFlatTable};
 ghost use Rattle.auc_market.specs.Endings.{IsLeft};
 ghost use Rattle.auc_direct.specs.Adopted.{IsFullTable};
-ghost use Rattle.auc_direct.specs.Endings.{IsAsked, IsLimited, IsLimitedFrom, IsLimitedUnless, IsOfFirstPhases};
-ghost use Rattle.auc_direct.specs.Endings.{IsOfPhases, IsOfPhasesFrom, IsOutcome};
+ghost use Rattle.auc_direct.specs.Endings.{IsAsked, IsBracketFor, IsCeilingWide, IsLimited, IsLimitedFirst};
+ghost use Rattle.auc_direct.specs.Endings.{IsLimitedFrom, IsLimitedUnless, IsOfFirstPhases, IsOfPhases};
+ghost use Rattle.auc_direct.specs.Endings.{IsOfPhasesFrom, IsOutcome, IsWideProblem};
 ghost use Rattle.auc_claim.specs.declared.reason.Reason.{Reason};
 ghost use Rattle.auc_market.specs.declared.ending.Ending.{Ending};
 ghost use Rattle.auc_direct.specs.Starts.{AreStartPrices};
@@ -18,9 +19,8 @@ ghost use Rattle.auc_direct.specs.Told.{IsTold};
 
 use crate::gathering::gather;
 use crate::onward::Onward;
-use crate::reduce::start_prices;
 use crate::rules::bids_from_start;
-use crate::run::{Outcome, run};
+use crate::run::{Outcome, run, run_first};
 use auc_answers::finish::{bracket, infeasible, proved_bracket, proved_optimal};
 use auc_answers::{Answer, Gathered, Prepared, prepare};
 use auc_claim::{HIGHEST_START, Reason};
@@ -157,6 +157,8 @@ fn concluded(
         → IfOk result (IsOfPhases problem.now bids begun) }
     ensures asked { (asked : Bool) → IfOk ended (λ o. (asked ≡ true) ⊎ IsFullTable flat)
         → IfOk result (IsAsked asked problem.now) }
+    ensures ceiling { IfOk ended (λ o. IsCeilingWide flat o.ending)
+        → IfOk result (λ a. IsBracketFor Reason.Ceiling a → IsWideProblem problem.now) }
 {
     match ended {
         Ok(outcome) => answer_of(alloc, problem, flat, outcome),
@@ -166,7 +168,8 @@ fn concluded(
 
 /// Solves a problem. The answer is a least-cost assignment, a Hall set, or a bracket: an assignment and a bound below
 /// which none costs. A bracket is answered where a phase would take more bids than `limits` allows, or a price above
-/// 2^61.
+/// 2^61. The latter comes only where n * ((n + 1) * spread + 1) + 1 is above 2^61, for n persons and the spread of
+/// their costs: clause `limit`.
 ///
 /// The checker finds no fault in any claim: of a least assignment that is proved, and the others pass it here. `Broken`
 /// is never answered. No phase makes more bids than `limits` says: clause `run`. The answer is right as that of
@@ -207,7 +210,7 @@ pub fn solve_direct(
     limits: &DirectLimits,
 ) -> Result<Answer, AllocError>
     ensures is { IfOk result (IsAnswer problem.now) }
-    ensures limit { IfOk result (IsLimited problem.now limits.now.bids (pos 0)) }
+    ensures limit { IfOk result (IsLimitedFirst problem.now limits.now.bids) }
     ensures run { IfOk result (IsOfFirstPhases problem.now limits.now.bids) }
 {
     solve_direct_watched(alloc, problem, limits, &mut Onward)
@@ -279,7 +282,7 @@ pub fn solve_direct_watched<W: Watch>(
     ensures is { IfOk result (IsAnswer problem.now) }
     ensures limit { IfOk result
         (λ a. IsLimitedUnless (W.has_stopped watch.old) (W.has_stopped watch.new) a
-        (IsLimited problem.now limits.now.bids (pos 0) a)) }
+        (IsLimitedFirst problem.now limits.now.bids a)) }
     ensures run { IfOk result (IsOfFirstPhases problem.now limits.now.bids) }
     ensures asked { IfOk result (IsAsked (W.was_asked watch.new) problem.now) }
 {
@@ -287,9 +290,7 @@ pub fn solve_direct_watched<W: Watch>(
     if let Some(answer) = answered(alloc, problem, &flat)? {
         return Ok(answer);
     }
-    let prices = start_prices(alloc, &flat)?;
-    let market = Market::new(alloc, &flat, prices)?;
-    let ended = run(alloc, &flat, limits.bids, market, 0, watch);
+    let ended = run_first(alloc, &flat, limits.bids, watch);
     concluded(alloc, problem, flat, ended)
 }
 

@@ -55,7 +55,7 @@ IsHeeded w p answer Holds = IsAsked w.asked p answer × IsLimitedOr w.stopped an
 -- bid more than the greatest price; or who watches has stopped it.
 abbrev pub BearOutDirect : Watched → SolveNumbers → List ℕ → Result Answer Refusal → Type 0
 BearOutDirect w n file (Ok answer) =
-    (p : Problem) × IsProblemOf n.sizes file p × IsAnswer p answer × IsHeeded w p answer (IsLimited p n.bids (pos 0) answer)
+    (p : Problem) × IsProblemOf n.sizes file p × IsAnswer p answer × IsHeeded w p answer (IsLimitedFirst p n.bids answer)
 BearOutDirect w n file (Err refusal) = BearOutRefusal n.sizes file refusal
 
 -- the limits of a solve with threads: so many shards of each kind, bids, and places in each trail, and else the usual

@@ -1,9 +1,11 @@
 use Rattle.std.proofs.Common.{◌≡◌, inr}
 use Rattle.auc_answers.specs.Answers.{IsAnswer, IsInfeasibleAnswer}
 use Rattle.auc_graph.specs.Assignment.{total}
-use Rattle.auc_direct.specs.Endings.{IsAsked, IsLimited, IsLimitedUnless, IsOfPhases}
+use Rattle.auc_claim.specs.declared.reason.Reason.{Reason}
+use Rattle.auc_direct.specs.Endings.{IsAsked, IsBracketFor, IsLimited, IsLimitedUnless, IsOfPhases, IsWideProblem}
 use Rattle.auc_direct.specs.Told.{IsTold}
 use Rattle.auc_direct.proofs.Answering.{is_asked, none_asked, limit_or_told, none_is_answer, none_is_limited, none_of_phases, of_answers}
+use Rattle.auc_direct.proofs.Ceilings.{wide_told}
 use Rattle.auc_direct.proofs.solving.concluded.Goals as goal
 
 pub answer_of-requires-clause-left : goal.answer_of-requires-clause-left
@@ -53,4 +55,11 @@ returns-in-Ok-clause-asked c = λ asked ended. (
     let p = c.args.problem.now in
     let o = c.in-Ok.outcome in
     of_answers (IsTold p c.args.flat o.ending o.holdings.prices.items) (IsAsked asked p) c.answer_of.result (λ a _. is_asked asked p c.args.flat c.requires.rows (rw c.in-Ok.is at ended) a) c.answer_of.ensures
+    )
+
+pub returns-in-Ok-clause-ceiling : goal.returns-in-Ok-clause-ceiling
+returns-in-Ok-clause-ceiling c = λ ended. (
+    let p = c.args.problem.now in
+    let o = c.in-Ok.outcome in
+    of_answers (IsTold p c.args.flat o.ending o.holdings.prices.items) (λ a. IsBracketFor Reason.Ceiling a → IsWideProblem p) c.answer_of.result (λ a told. wide_told p c.args.flat o.ending o.holdings.prices.items a c.requires.rows (rw c.in-Ok.is at ended) told) c.answer_of.ensures
     )

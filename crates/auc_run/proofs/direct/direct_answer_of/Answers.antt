@@ -1,5 +1,4 @@
-use Rattle.std.proofs.Common.{pos}
-use Rattle.auc_direct.specs.Endings.{IsLimited}
+use Rattle.auc_direct.specs.Endings.{IsLimitedFirst}
 use Rattle.auc_run.proofs.StartLaws.{limited_or}
 use Rattle.auc_run.proofs.direct.direct_answer_of.Goals as goal
 
@@ -9,5 +8,5 @@ returns g c =
     let read = c.in_ok-problem.ensures.problem in
     let answer = c.in_ok-answer.answer in
     let is = c.in_ok-answer.ensures in
-    let limited = limited_or (g.V.Watch.has_stopped c.args.watch.now) (g.V.Watch.has_stopped c.solve_direct_watched.new.watch) answer (IsLimited p c.args.numbers.bids (pos 0) answer) is.limit in
+    let limited = limited_or (g.V.Watch.has_stopped c.args.watch.now) (g.V.Watch.has_stopped c.solve_direct_watched.new.watch) answer (IsLimitedFirst p c.args.numbers.bids answer) is.limit in
     (read.0, read.1, (p, read.2, is.is, (is.asked, limited)))

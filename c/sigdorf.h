@@ -104,7 +104,7 @@ enum sigdorf_limit { SIGDORF_BIDS = 1, SIGDORF_CEILING, SIGDORF_POSTS, SIGDORF_T
  *   costs; and NO ASSIGNMENT OF THE PROBLEM COSTS LESS. prices[j] is a price of object j from 0 to 2^61, on the scale of costs times
  *   persons + 1. sigdorf_check lets all of it pass, unless memory is refused.
  * SIGDORF_BRACKET: the same, but that no assignment costs less than found->lower. It is left only where a phase has made `bids` bids, or
- *   the next bid would be above 2^61.
+ *   prices have come to 2^61: without a start only where persons * ((persons + 1) * (greatest cost - least) + 1) is that much.
  * SIGDORF_INFEASIBLE: all arcs of the first found->persons persons in `choice` lead to the first found->objects objects in
  *   `hall_objects`, which are fewer; so there is no assignment. Both rise. sigdorf_check_hall lets them pass, unless memory is refused.
  * SIGDORF_REFUSED: found->kind and found->place are exactly the first fault of the list.

@@ -156,23 +156,6 @@ pub(crate) fn run<W: Watch>(
     })
 }
 
-/// Whether the greatest price has ended a run.
-fn is_at_ceiling(ending: Ending) -> bool
-    ensures yes { result ≡ true → ending ≡ Ending.Stopped Reason.Ceiling }
-    ensures no { result ≡ false → ending ≢ Ending.Stopped Reason.Ceiling }
-{
-    match ending {
-        Ending::Sold => false,
-        Ending::Stopped(reason) => match reason {
-            Reason::Ceiling => true,
-            Reason::Bids => false,
-            Reason::Posts => false,
-            Reason::Trail => false,
-            Reason::Mail => false,
-        },
-    }
-}
-
 /// One phase, at the last eps, from prices of 0. Objects that nobody holds keep price 0 in it, so prices rise no higher
 /// than they have to: clause `ceiling`.
 fn run_from_zero<W: Watch>(
@@ -220,7 +203,7 @@ pub(crate) fn run_first<W: Watch>(
     let prices = start_prices(alloc, rows)?;
     let market = Market::new(alloc, rows, prices)?;
     let outcome = run(alloc, rows, bids, market, 0, watch)?;
-    if !is_at_ceiling(outcome.ending) {
+    if outcome.ending != Ending::Stopped(Reason::Ceiling) {
         return Ok(outcome);
     }
     drop(outcome);

@@ -204,8 +204,8 @@ impl<'a> Market<'a> {
         self.holdings.free_from(from, until, person, other)
     }
 
-    /// A free person bids and gets the object. Returns the holder before, or NOBODY. None where even the least bid would
-    /// be above the greatest price: nothing has changed then.
+    /// A free person bids and gets the object. Returns the holder before, or NOBODY. None where even the least bid is
+    /// above the greatest price: nothing has changed then.
     #[inline(always)]
     pub(crate) fn bid(&mut self, person: u32) -> Option<u32>
         requires { IsFree self.old person }

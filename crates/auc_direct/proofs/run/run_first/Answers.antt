@@ -14,5 +14,5 @@ returns-in_err-market-clause-outcome g c = (replicate c.args.rows.now.objects (p
 pub returns-in_err-outcome-clause-outcome : goal.returns-in_err-outcome-clause-outcome
 returns-in_err-outcome-clause-outcome g c = (replicate c.args.rows.now.objects (pos 0), zero_start c.args.rows.now, search rules)
 
-pub returns-then-not-is_at_ceiling-clause-outcome : goal.returns-then-not-is_at_ceiling-clause-outcome
-returns-then-not-is_at_ceiling-clause-outcome g c = (c.in_ok-market.market.prices, rw c.in_ok-market.ensures.prices (c.in_ok-prices.ensures (pos 1) (inr refl)), c.in_ok-outcome.ensures.outcome)
+pub returns-then-ne-clause-outcome : goal.returns-then-ne-clause-outcome
+returns-then-ne-clause-outcome g c = (c.in_ok-market.market.prices, rw c.in_ok-market.ensures.prices (c.in_ok-prices.ensures (pos 1) (inr refl)), c.in_ok-outcome.ensures.outcome)

@@ -1,6 +1,6 @@
 -- What a solve may answer about a problem, the text that tells it, and which answers are right for the bytes of a
 -- problem.
-use Rattle.std.specs.Prelude.{◌⊎◌, ℕ, zero, suc, Bool, true, false, List, codes, Option, None, Result, Ok, Err, ⊤, pos}
+use Rattle.std.specs.Prelude.{◌⊎◌, ℕ, zero, suc, Bool, true, false, List, codes, Option, None, Result, Ok, Err, ⊤}
 use Rattle.auc_graph.specs.Problem.{Problem}
 use Rattle.auc_cert.specs.Text.{text}
 use Rattle.auc_answers.specs.declared.answer.Answer.{Answer}
@@ -10,7 +10,7 @@ use Rattle.auc_answers.specs.declared.answer.Guard.TheVariants.{Check, Fell, Set
 use Rattle.auc_phases.specs.declared.limits.Limits.{Limits}
 use Rattle.auc_answers.specs.Answers.{IsAnswer}
 use Rattle.auc_world.specs.Chain.{IsOfRun}
-use Rattle.auc_direct.specs.Endings.{IsAsked, IsLimited, IsStopTold}
+use Rattle.auc_direct.specs.Endings.{IsAsked, IsLimitedFirst, IsStopTold}
 use Rattle.auc_threads.specs.declared.phase.PhaseEnd.{PhaseEnd}
 use Rattle.auc_threads.specs.Solved.{IsSolvedBy, IsThreadAnswer}
 use Rattle.auc_run.specs.declared.command.SolveNumbers.{SolveNumbers}

@@ -183,18 +183,38 @@ fn cost_after(
     Ok(least_cost(&answer))
 }
 
-/// Whether schedules of each kind, with some shards, lead to assignments of this cost, as the serial solver does.
-fn cost_this(rt: &HostRuntime, numbers: &mut Numbers, text: &str, cost: i64) -> Result<bool, Fail> {
-    let problem = problem_of(rt, text)?;
-    let serial = solve_serial(rt.alloc(), &problem, &in_range(Limits::usual(1))?)?;
-    for shards in 1..4 {
-        for starved in 0..KINDS + 1 {
-            if cost_after(rt, &problem, shards, starved, numbers)? != Some(cost) {
-                return Ok(false);
-            }
+/// The cost of the serial solver's assignment.
+fn serial_cost(rt: &HostRuntime, problem: &ArcList) -> Result<Option<i64>, Fail> {
+    let answer = solve_serial(rt.alloc(), problem, &in_range(Limits::usual(1))?)?;
+    Ok(least_cost(&answer))
+}
+
+/// Whether schedules of each kind lead to an assignment of this cost.
+fn all_cost(
+    rt: &HostRuntime,
+    problem: &ArcList,
+    shards: u32,
+    numbers: &mut Numbers,
+    cost: i64,
+) -> Result<bool, Fail>
+    requires { shards ≤ 16 }
+{
+    for starved in 0..KINDS + 1 {
+        if cost_after(rt, problem, shards, starved, numbers)? != Some(cost) {
+            return Ok(false);
         }
     }
-    Ok(least_cost(&serial) == Some(cost))
+    Ok(true)
+}
+
+/// Whether schedules with up to three shards of each kind lead to assignments of this cost, as the serial solver does.
+fn cost_this(rt: &HostRuntime, numbers: &mut Numbers, text: &str, cost: i64) -> Result<bool, Fail> {
+    let problem = problem_of(rt, text)?;
+    let one = all_cost(rt, &problem, 1, numbers, cost)?;
+    let two = all_cost(rt, &problem, 2, numbers, cost)?;
+    let three = all_cost(rt, &problem, 3, numbers, cost)?;
+    let serial = serial_cost(rt, &problem)?;
+    Ok(one && two && three && serial == Some(cost))
 }
 
 /// Whatever was played before, whole rounds lead to a least assignment from there.

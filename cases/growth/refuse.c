@@ -1,8 +1,7 @@
 // Refuses growths of memory: a library that is loaded before a program, in place of the C library's malloc, calloc and realloc.
 //
 // REFUSE=N in the environment refuses the N-th growth, counted from 1; 0 refuses none. Where COUNT_FROM=start is there, growths count from the start of
-// the program on, else from the moment at which a block of MARK_ONE bytes is taken until it is given back. While a block of MARK_ALL bytes
-// is held all growths are refused. At its end the program adds to the file that TOLD names a line with the number of growths that counted, and of those that were refused.
+// the program on, else from the moment at which a block of MARK_ONE bytes is taken until it is given back. At its end the program adds to the file that TOLD names a line with the number of growths that counted, and of those that were refused.
 #include <errno.h>
 #include <fcntl.h>
 #include <stdatomic.h>
@@ -12,9 +11,8 @@
 #include <sys/syscall.h>
 #include <unistd.h>
 
-// The sizes that `memory_tests` asks for, in its file `marks.rt`.
+// The size that `memory_tests` asks for, in its file `marks.rt`.
 #define MARK_ONE 7654321
-#define MARK_ALL 7654322
 
 void *__libc_malloc(size_t);
 void *__libc_calloc(size_t, size_t);
@@ -23,7 +21,7 @@ void __libc_free(void *);
 
 static long refused_number;
 static atomic_long counted, refused;
-static _Atomic(void *) mark_one, mark_all;
+static _Atomic(void *) mark_one;
 static int counts_from_start, is_ready;
 
 __attribute__((constructor)) static void begin(void)
@@ -65,7 +63,7 @@ static int is_refused(void)
 {
     if (!is_ready)
         return 0;
-    if (mark_all == NULL && ((!counts_from_start && mark_one == NULL) || ++counted != refused_number))
+    if ((!counts_from_start && mark_one == NULL) || ++counted != refused_number)
         return 0;
     refused++;
     errno = ENOMEM;
@@ -79,8 +77,6 @@ void *malloc(size_t size)
     void *block = __libc_malloc(size);
     if (size == MARK_ONE)
         mark_one = block;
-    if (size == MARK_ALL)
-        mark_all = block;
     return block;
 }
 
@@ -98,7 +94,5 @@ void free(void *block)
 {
     if (block != NULL && block == mark_one)
         mark_one = NULL;
-    if (block != NULL && block == mark_all)
-        mark_all = NULL;
     __libc_free(block);
 }

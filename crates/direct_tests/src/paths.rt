@@ -1,20 +1,14 @@
 //! Price wars at eps 1 that would take billions of bids, since many persons want few objects: augmenting paths end them
 //! within a few bids. With objects to spare there is no other phase, so these tests show it.
 
-use crate::texts::{AMPLE, answered, problem_of, text_of};
-use auc_cert::read_cert;
-use auc_claim::start_prices;
-use auc_direct::{DirectLimits, solve_direct_from};
+use crate::texts::{AMPLE, answered, answered_from, problem_of};
+use auc_direct::DirectLimits;
 use auc_graph::{Arc, ArcList};
 use std::test::*;
 
 /// Three persons, each of whom has one of two objects at cost 0, or pays the greatest cost. The last one doesn't have
 /// that, so it is no full table, which would be searched without bids.
 const THREE: &str = "3\n1 1 0 1 2 0 1 3 1000000000\n2 1 0 2 2 0 2 3 1000000000\n3 1 0 3 2 0\n";
-
-/// A certificate of another problem, at prices of 0.
-const NO_PRICES: &str =
-    "auction 1\noptimal 3 0\nassign 1 1 0\nassign 2 2 0\nassign 3 3 0\nprice 1 0\nprice 2 0\nprice 3 0\n";
 
 /// Far fewer bids than there are steps of eps in the greatest cost.
 const FEW: DirectLimits = DirectLimits { bids: 1_000 };
@@ -73,10 +67,7 @@ fn many_penalties_with_objects_to_spare(rt: HostRuntime) -> Result<(), Fail> {
 #[test]
 fn a_start_without_prices(rt: HostRuntime) -> Result<(), Fail> {
     let problem = problem_of(&rt, THREE, 0)?;
-    let cert = read_cert(rt.alloc(), NO_PRICES.as_bytes())?;
-    let start = start_prices(rt.alloc(), &problem, &cert)?;
-    let answer = solve_direct_from(rt.alloc(), &problem, &FEW, start.as_slice())?;
-    let told = text_of(&rt, &problem, answer)?;
+    let told = answered_from(&rt, &problem, &FEW, &[0, 0, 0])?;
     assert!(rt;
         told.as_slice()
             .starts_with(b"auction 1\noptimal 3 1000000000\n")

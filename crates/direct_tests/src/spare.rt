@@ -1,6 +1,6 @@
 //! Starts with more objects than persons. The least costs are those of a search of all assignments.
 
-use crate::texts::{AMPLE, answered, answered_from, prices_of, problem_of};
+use crate::texts::{AMPLE, answered, answered_from, problem_of};
 use auc_direct::{DirectLimits, may_start};
 use auc_graph::ArcList;
 use std::test::*;
@@ -58,19 +58,6 @@ fn any_prices(rt: HostRuntime) -> Result<(), Fail> {
         let told = told_from(&rt, &new, &AMPLE, start)?;
         assert!(rt; told.as_slice().starts_with(NEW_CLAIM));
     }
-    Ok(())
-}
-
-/// And from the prices of a solve, of the same problem or the one before.
-#[test]
-fn prices_of_a_solve(rt: HostRuntime) -> Result<(), Fail> {
-    let old = problem_of(&rt, OLD, 6)?;
-    let new = problem_of(&rt, NEW, 6)?;
-    let start = prices_of(&rt, &old)?;
-    let told = answered_from(&rt, &old, &AMPLE, start.as_slice())?;
-    assert!(rt; told.as_slice().starts_with(OLD_CLAIM));
-    let told = answered_from(&rt, &new, &AMPLE, start.as_slice())?;
-    assert!(rt; told.as_slice().starts_with(NEW_CLAIM));
     Ok(())
 }
 

@@ -2,7 +2,7 @@
 
 use auc_answers::Answer;
 use auc_cert::write_cert;
-use auc_claim::{CertParts, check};
+use auc_claim::check;
 use auc_direct::{DirectLimits, may_start, solve_direct, solve_direct_from};
 use auc_graph::{ArcList, MOST_OBJECTS, ReadLimits, read_arcs};
 use std::test::*;
@@ -58,15 +58,4 @@ pub fn answered_from(
     }
     let answer = solve_direct_from(rt.alloc(), problem, limits, start)?;
     text_of(rt, problem, answer)
-}
-
-/// The prices of the certificate that a solve ends with.
-pub fn prices_of(rt: &HostRuntime, problem: &ArcList) -> Result<Vec<i64>, Fail> {
-    let Answer::Optimal(cert) = solve_direct(rt.alloc(), problem, &AMPLE)? else {
-        return Err(Fail::new("no assignment"));
-    };
-    let CertParts::Optimal { prices, .. } = cert.parts() else {
-        return Err(Fail::new("no prices"));
-    };
-    Ok(prices.as_slice().to_vec(rt.alloc())?)
 }

@@ -1,5 +1,5 @@
-//! Refused memory: each call that takes memory with each of its growths refused in turn, and those that take none with
-//! all refused.
+//! Refused memory: public calls that take memory, with each of their growths refused in turn. The calls that the
+//! program's commands make aren't here: `cases/growth/run` refuses each growth of the commands themselves.
 //!
 //! A test makes what it needs with ample memory, takes a mark (`marks.rt`), and makes its call. The answer has to be
 //! the one with ample memory: at once, or, where memory was refused, when the same call is made again. The state of the
@@ -11,21 +11,13 @@
 #![tactic(auto)]
 
 #[cfg(test)]
-mod certificates;
-#[cfg(test)]
-mod locked;
-#[cfg(test)]
 mod mails;
 #[cfg(test)]
 mod marks;
 #[cfg(test)]
-mod nothing_taken;
-#[cfg(test)]
 mod problems;
 #[cfg(test)]
 mod same;
-#[cfg(test)]
-mod shards;
 #[cfg(test)]
 mod solvers;
 #[cfg(test)]

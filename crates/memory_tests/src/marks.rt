@@ -6,15 +6,7 @@ use std::test::*;
 /// A block of this size marks that one growth after it is refused.
 const ONE: usize = 7_654_321;
 
-/// A block of this size marks that all growths after it are refused.
-const ALL: usize = 7_654_322;
-
 /// One growth is refused from here on, until the mark is dropped.
 pub fn refuse_one(alloc: Global) -> Result<Vec<u8>, Fail> {
     Ok(Vec::with_capacity(alloc, ONE)?)
-}
-
-/// All growths are refused from here on, until the mark is dropped.
-pub fn refuse_all(alloc: Global) -> Result<Vec<u8>, Fail> {
-    Ok(Vec::with_capacity(alloc, ALL)?)
 }

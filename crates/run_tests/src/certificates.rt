@@ -76,17 +76,6 @@ fn parts_of_a_text(rt: HostRuntime) -> Result<(), Fail> {
 }
 
 #[test]
-fn parts_of_a_hall_set(rt: HostRuntime) -> Result<(), Fail> {
-    let read = read_cert(rt.alloc(), ONE_OBJECT_CERT.as_bytes())?;
-    if let CertParts::Infeasible { persons, objects } = read.parts() {
-        assert_same(&rt, persons.as_slice(), [0, 1].as_slice());
-        assert_same(&rt, objects.as_slice(), [0].as_slice());
-        return Ok(());
-    }
-    Err(Fail::new("it is an infeasible one"))
-}
-
-#[test]
 fn no_certificate(rt: HostRuntime) {
     assert_same(
         &rt,
@@ -132,29 +121,6 @@ fn parts_without_a_text(rt: HostRuntime) -> Result<(), Fail> {
         return Ok(());
     }
     Err(Fail::new("nobody is in it"))
-}
-
-/// Whether a certificate that names these two persons isn't made, and the names come back.
-fn come_back(rt: &HostRuntime, first: u32, second: u32) -> Result<bool, Fail> {
-    let parts = CertParts::Infeasible {
-        persons: Indices::new(vec![in rt.alloc(); first, second]?),
-        objects: Indices::new(Vec::new(rt.alloc())),
-    };
-    if let Err(CertParts::Infeasible { persons, objects }) = Cert::make(parts) {
-        return Ok(
-            persons.as_slice() == [first, second].as_slice() && objects.into_vec().is_empty(),
-        );
-    }
-    Ok(false)
-}
-
-/// Names that don't rise below 10,000 come back.
-#[test]
-fn names_without_a_text(rt: HostRuntime) -> Result<(), Fail> {
-    assert!(rt; come_back(&rt, 1, 1)?);
-    assert!(rt; come_back(&rt, 1, 0)?);
-    assert!(rt; come_back(&rt, 1, 10_000)?);
-    Ok(())
 }
 
 /// What keeps a certificate from being written, where the writer has so much room, and then takes nothing or fails.

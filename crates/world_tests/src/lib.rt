@@ -6,8 +6,6 @@ mod answers;
 #[cfg(test)]
 mod closing;
 #[cfg(test)]
-mod finishing;
-#[cfg(test)]
 mod hostile;
 #[cfg(test)]
 mod limits;

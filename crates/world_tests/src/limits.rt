@@ -2,12 +2,12 @@
 
 use crate::answers::answered;
 use crate::moves::HUB_TAKE;
-use crate::problems::{NO_OBJECT, ONE, ONE_OBJECT, TWO, in_range, problem_of};
+use crate::problems::{NO_OBJECT, ONE, ONE_OBJECT, TWO};
 use crate::same::assert_same;
 use crate::telling::Step::{Look, Round, Rounds};
 use crate::telling::{told, told_at};
 use auc_graph::MOST_PRICE;
-use auc_world::{Answer, Limits, solve_serial};
+use auc_world::Limits;
 use std::test::*;
 
 /// The usual limits of one shard of each kind, but this number of bids.
@@ -34,9 +34,19 @@ fn nodes(nodes: u32) -> Limits {
     }
 }
 
-/// Limits with which two persons who prefer one object can't both get one.
-fn too_low() -> [Limits; 5] {
-    [bids(0), bids(1), posts(0), posts(1), nodes(1)]
+/// Whether a solve of two persons within these limits leaves such a bracket.
+fn leaves(
+    rt: &HostRuntime,
+    limits: Limits,
+    head: &str,
+    picks: &str,
+    price: i64,
+) -> Result<bool, Fail> {
+    let out = answered(rt, TWO, limits)?;
+    let expected = format!(in rt.alloc();
+        "auction 1\nbracket {head}\n{picks}price 1 {price}\nprice 2 0\n"
+    )?;
+    Ok(out.as_slice() == expected.as_bytes())
 }
 
 /// What no limit leaves sold is completed, and the prices give a lower bound of the cost of all assignments.
@@ -44,58 +54,45 @@ fn too_low() -> [Limits; 5] {
 fn low_limits_leave_brackets(rt: HostRuntime) -> Result<(), Fail> {
     let first = "assign 1 1 1\nassign 2 2 3\n";
     let second = "assign 1 2 2\nassign 2 1 1\n";
-    for (limits, head, picks, price) in [
-        (bids(0), "bids 2 2 4", first, 0),
-        (bids(1), "bids 2 3 4", first, 4),
-        (posts(0), "posts 2 2 4", first, 0),
-        (posts(1), "posts 2 3 4", first, 4),
-        (nodes(1), "mail 2 3 3", second, 7),
-    ] {
-        let out = answered(&rt, TWO, limits)?;
-        let expected = format!(in rt.alloc();
-            "auction 1\nbracket {head}\n{picks}price 1 {price}\nprice 2 0\n"
-        )?;
-        assert_same(&rt, (limits, out.as_slice()), (limits, expected.as_bytes()));
-    }
+    assert!(rt; leaves(&rt, bids(0), "bids 2 2 4", first, 0)?);
+    assert!(rt; leaves(&rt, bids(1), "bids 2 3 4", first, 4)?);
+    assert!(rt; leaves(&rt, posts(0), "posts 2 2 4", first, 0)?);
+    assert!(rt; leaves(&rt, posts(1), "posts 2 3 4", first, 4)?);
+    assert!(rt; leaves(&rt, nodes(1), "mail 2 3 3", second, 7)?);
     Ok(())
+}
+
+/// Whether a solve without bids finds that there is no assignment.
+fn is_infeasible(rt: &HostRuntime, text: &str) -> Result<bool, Fail> {
+    let out = answered(rt, text, bids(0))?;
+    Ok(out.as_slice().starts_with(b"auction 1\ninfeasible "))
 }
 
 /// A Hall violator is found without a bid.
 #[test]
 fn low_limits_leave_hall_sets(rt: HostRuntime) -> Result<(), Fail> {
-    for text in [ONE_OBJECT, NO_OBJECT] {
-        let problem = problem_of(&rt, text)?;
-        for limits in too_low() {
-            let answer = solve_serial(rt.alloc(), &problem, &in_range(limits)?)?;
-            assert!(rt;
-                matches!(answer, Answer::Infeasible(_)),
-                "{text} {limits:?}"
-            );
-        }
-    }
+    assert!(rt; is_infeasible(&rt, ONE_OBJECT)?);
+    assert!(rt; is_infeasible(&rt, NO_OBJECT)?);
     Ok(())
+}
+
+/// Whether a phase of two persons ends so within these limits.
+fn ends(rt: &HostRuntime, text: &str, limits: Limits, expected: &str) -> Result<bool, Fail> {
+    let told = told(rt, text, limits, &[Rounds, Look])?;
+    Ok(told.as_str() == expected)
 }
 
 /// Where a phase of two persons stops, and why.
 #[test]
 fn stops(rt: HostRuntime) -> Result<(), Fail> {
-    let steps = [Rounds, Look];
-    for (text, limits, expected) in [
-        (TWO, bids(0), "[-:0 -:0 Some(Stopped { why: Bids })]"),
-        (TWO, bids(1), "[1:4 -:0 Some(Stopped { why: Bids })]"),
-        (TWO, posts(0), "[-:0 -:0 Some(Stopped { why: Posts })]"),
-        (TWO, posts(1), "[1:4 -:0 Some(Stopped { why: Posts })]"),
-        (TWO, nodes(1), "[2:7 -:0 Some(Stopped { why: Mail })]"),
-        // The second person has no arc.
-        (
-            NO_OBJECT,
-            Limits::usual(1),
-            "[1:1 -:0 Some(Stopped { why: Stuck })]",
-        ),
-    ] {
-        let told = told(&rt, text, limits, &steps)?;
-        assert_same(&rt, (limits, told.as_str()), (limits, expected));
-    }
+    assert!(rt; ends(&rt, TWO, bids(0), "[-:0 -:0 Some(Stopped { why: Bids })]")?);
+    assert!(rt; ends(&rt, TWO, bids(1), "[1:4 -:0 Some(Stopped { why: Bids })]")?);
+    assert!(rt; ends(&rt, TWO, posts(0), "[-:0 -:0 Some(Stopped { why: Posts })]")?);
+    assert!(rt; ends(&rt, TWO, posts(1), "[1:4 -:0 Some(Stopped { why: Posts })]")?);
+    assert!(rt; ends(&rt, TWO, nodes(1), "[2:7 -:0 Some(Stopped { why: Mail })]")?);
+    // The second person has no arc.
+    let stuck = "[1:1 -:0 Some(Stopped { why: Stuck })]";
+    assert!(rt; ends(&rt, NO_OBJECT, Limits::usual(1), stuck)?);
     Ok(())
 }
 

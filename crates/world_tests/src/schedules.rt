@@ -5,7 +5,6 @@ ghost use Rattle.std.specs.Prelude.{◌≡◌, ◌≤◌};
 use crate::numbers::Numbers;
 use crate::problems::{THREE, TWO, in_range, problem_of, world_of};
 use crate::rounds::play_rounds;
-use crate::same::assert_same;
 use auc_claim::CertParts;
 use auc_graph::{ArcList, Rows};
 use auc_letters::Held;
@@ -23,53 +22,39 @@ const LOOK: u32 = 20;
 /// The number of kinds of turns.
 const KINDS: u32 = 8;
 
-/// A problem, and the least cost of its assignments.
-#[derive(Clone, Copy)]
-struct Example {
-    problem: &'static str,
-    cost: i64,
-}
+/// One person has a single object, by two arcs.
+const ONE_BY_TWO: &str = "2\n1 1 4 1 1 2\n2 1 0 2 2 5\n";
 
-fn problems() -> [Example; 5] {
-    [
-        Example {
-            problem: TWO,
-            cost: 3,
-        },
-        Example {
-            problem: THREE,
-            cost: 5,
-        },
-        // One person has a single object, by two arcs.
-        Example {
-            problem: "2\n1 1 4 1 1 2\n2 1 0 2 2 5\n",
-            cost: 7,
-        },
-        // Costs below 0, an arc twice, and two least-cost assignments.
-        Example {
-            problem: "3\n1 1 -5 1 1 -6 1 2 4\n2 1 -6 2 2 3 2 3 0\n3 3 -2 3 1 -9\n",
-            cost: -5,
-        },
-        // Three persons fight for two objects, and another object costs the loser much more.
-        Example {
-            problem: "4\n1 1 0 1 2 1 1 3 20\n2 1 1 2 2 0 2 4 25\n3 1 0 3 3 15 3 4 14\n4 2 0 4 4 30 4 1 2\n",
-            cost: 35,
-        },
-    ]
-}
+/// Costs below 0, an arc twice, and two least-cost assignments.
+const BELOW_0: &str = "3\n1 1 -5 1 1 -6 1 2 4\n2 1 -6 2 2 3 2 3 0\n3 3 -2 3 1 -9\n";
+
+/// Three persons fight for two objects, and another object costs the loser much more.
+const FIGHT: &str =
+    "4\n1 1 0 1 2 1 1 3 20\n2 1 1 2 2 0 2 4 25\n3 1 0 3 3 15 3 4 14\n4 2 0 4 4 30 4 1 2\n";
 
 /// The next turn: in about one of four cases its shard or its object doesn't exist. Never one of the starved kind, if
-/// there is such a kind.
+/// there is such a kind. All numbers are drawn first.
 fn next_turn(numbers: &mut Numbers, shards: u32, starved: u32) -> Turn
     requires { shards ≤ 16 }
 {
     let shard = numbers.below(shards + 1);
-    let drawn = numbers.below(KINDS);
-    let kind = if drawn == starved {
-        (drawn + 1) % KINDS
+    let to = numbers.below(shards + 1);
+    let kind = kind_of(numbers.below(KINDS), starved);
+    let object = numbers.below(5);
+    let mail = mail_of(numbers.below(3));
+    turn_of(kind, shard, object, to, mail)
+}
+
+/// The kind that was drawn, or the one after it where that one is starved.
+fn kind_of(drawn: u32, starved: u32) -> u32 {
+    if drawn == starved {
+        drawn.wrapping_add(1) % KINDS
     } else {
         drawn
-    };
+    }
+}
+
+fn turn_of(kind: u32, shard: u32, object: u32, to: u32, mail: MailName) -> Turn {
     match kind {
         0 => Turn::Bid { shard },
         1 => Turn::PersonPost { shard },
@@ -77,15 +62,8 @@ fn next_turn(numbers: &mut Numbers, shards: u32, starved: u32) -> Turn
         3 => Turn::ObjectTake { shard },
         4 => Turn::ObjectPost { shard },
         5 => Turn::HubTake,
-        6 => Turn::Tell {
-            shard,
-            object: numbers.below(5),
-            to: numbers.below(shards + 1),
-        },
-        _ => Turn::HubClose {
-            mail: mail_of(numbers.below(3)),
-            at: shard,
-        },
+        6 => Turn::Tell { shard, object, to },
+        _ => Turn::HubClose { mail, at: shard },
     }
 }
 
@@ -97,15 +75,26 @@ fn mail_of(number: u32) -> MailName {
     }
 }
 
+/// How many objects a person holds.
+fn held_by(holders: &[Option<Held>], person: u32) -> u32 {
+    let mut held = 0u32;
+    for holder in holders {
+        if let Some(other) = holder {
+            if other.person == person {
+                held = held.saturating_add(1);
+            }
+        }
+    }
+    held
+}
+
 /// Whether a person holds two objects.
 fn holds_two(holders: &[Option<Held>]) -> bool {
-    for holder in holders.iter().flatten() {
-        let same = holders
-            .iter()
-            .flatten()
-            .filter(|other| other.person == holder.person);
-        if same.count() > 1 {
-            return true;
+    for holder in holders {
+        if let Some(held) = holder {
+            if held_by(holders, held.person) > 1 {
+                return true;
+            }
         }
     }
     false
@@ -113,7 +102,12 @@ fn holds_two(holders: &[Option<Held>]) -> bool {
 
 /// Whether a price is below what it was.
 fn has_fallen(before: &[i64], after: &[i64]) -> bool {
-    before.iter().zip(after.iter()).any(|(old, new)| new < old)
+    for place in 0..before.len().min(after.len()) {
+        if after[place] < before[place] {
+            return true;
+        }
+    }
+    false
 }
 
 /// The cost of a least assignment, if this is the certificate of one.
@@ -189,20 +183,48 @@ fn cost_after(
     Ok(least_cost(&answer))
 }
 
+/// The cost of the serial solver's assignment.
+fn serial_cost(rt: &HostRuntime, problem: &ArcList) -> Result<Option<i64>, Fail> {
+    let answer = solve_serial(rt.alloc(), problem, &in_range(Limits::usual(1))?)?;
+    Ok(least_cost(&answer))
+}
+
+/// Whether schedules of each kind lead to an assignment of this cost.
+fn all_cost(
+    rt: &HostRuntime,
+    problem: &ArcList,
+    shards: u32,
+    numbers: &mut Numbers,
+    cost: i64,
+) -> Result<bool, Fail>
+    requires { shards ≤ 16 }
+{
+    for starved in 0..KINDS + 1 {
+        if cost_after(rt, problem, shards, starved, numbers)? != Some(cost) {
+            return Ok(false);
+        }
+    }
+    Ok(true)
+}
+
+/// Whether schedules with up to three shards of each kind lead to assignments of this cost, as the serial solver does.
+fn cost_this(rt: &HostRuntime, numbers: &mut Numbers, text: &str, cost: i64) -> Result<bool, Fail> {
+    let problem = problem_of(rt, text)?;
+    let one = all_cost(rt, &problem, 1, numbers, cost)?;
+    let two = all_cost(rt, &problem, 2, numbers, cost)?;
+    let three = all_cost(rt, &problem, 3, numbers, cost)?;
+    let serial = serial_cost(rt, &problem)?;
+    Ok(one && two && three && serial == Some(cost))
+}
+
 /// Whatever was played before, whole rounds lead to a least assignment from there.
 #[test]
 fn mixed_schedules(rt: HostRuntime) -> Result<(), Fail> {
     let mut numbers = Numbers::new(2026);
-    for Example { problem, cost } in problems() {
-        let problem = problem_of(&rt, problem)?;
-        let serial = solve_serial(rt.alloc(), &problem, &in_range(Limits::usual(1))?)?;
-        assert_same(&rt, least_cost(&serial), Some(cost));
-        for shards in 1..4 {
-            for starved in 0..=KINDS {
-                let got = cost_after(&rt, &problem, shards, starved, &mut numbers)?;
-                assert_same(&rt, (shards, starved, got), (shards, starved, Some(cost)));
-            }
-        }
-    }
+    assert!(rt; cost_this(&rt, &mut numbers, TWO, 3)?);
+    assert!(rt; cost_this(&rt, &mut numbers, THREE, 5)?);
+    assert!(rt; cost_this(&rt, &mut numbers, ONE_BY_TWO, 7)?);
+    assert!(rt; cost_this(&rt, &mut numbers, BELOW_0, -5)?);
+    assert!(rt; cost_this(&rt, &mut numbers, FIGHT, 35)?);
     Ok(())
 }

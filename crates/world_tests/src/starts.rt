@@ -1,5 +1,7 @@
 //! Solves that start from the prices of an old certificate.
 
+ghost use Rattle.std.specs.Prelude.{◌≤◌};
+
 use crate::answers::text_of;
 use crate::limits::bids;
 use crate::problems::{ONE, ONE_OBJECT, TWO, in_range, problem_of};
@@ -84,49 +86,49 @@ fn limits_hold_from_a_start(rt: HostRuntime) -> Result<(), Fail> {
     Ok(())
 }
 
+/// Why a certificate's prices can't start a solve of the problem that a text reads as with so many objects, or with as
+/// many as persons where that is 0.
+fn start_error(
+    rt: &HostRuntime,
+    problem: &str,
+    objects: u16,
+    cert: &str,
+) -> Result<Option<StartError>, Fail>
+    requires { objects ≤ 20000 }
+{
+    let limits = ReadLimits {
+        objects: objects as u32,
+        ..ReadLimits::usual()
+    };
+    let problem = read_arcs(rt.alloc(), problem.as_bytes(), limits)?;
+    Ok(start_prices(rt.alloc(), &problem, &cert_of(rt, cert)?).err())
+}
+
 /// Why a certificate's prices can't start a solve, and in which order.
 #[test]
 fn no_start(rt: HostRuntime) -> Result<(), Fail> {
     let hall = "auction 1\ninfeasible 2 1\nperson 1\nperson 2\nobject 1\n";
+    let wide = "auction 2\noptimal 1 2 3\nassign 1 2 3\nprice 1 0\nprice 2 5\n";
     let too_high = format!(in rt.alloc(); "{OF_ONE}1152921504606846977\n")?;
+    let too_high = too_high.as_str();
     let one = format!(in rt.alloc(); "{OF_ONE}1\n")?;
-    let two = ReadLimits {
-        objects: 2,
-        ..ReadLimits::usual()
-    };
-    let more = ReadLimits { objects: 3, ..two };
-    for (problem, cert, limits, expected) in [
-        (
-            ONE,
-            too_high.as_str(),
-            ReadLimits::usual(),
-            StartError::TooHigh { object: 0 },
-        ),
-        (
-            TWO,
-            too_high.as_str(),
-            ReadLimits::usual(),
-            StartError::OtherSize,
-        ),
-        (
-            TWO,
-            one.as_str(),
-            ReadLimits::usual(),
-            StartError::OtherSize,
-        ),
-        (TWO, hall, ReadLimits::usual(), StartError::NoPrices),
-        (
-            "1\n1 1 5\n1 2 3",
-            "auction 2\noptimal 1 2 3\nassign 1 2 3\nprice 1 0\nprice 2 5\n",
-            two,
-            StartError::NotSquare,
-        ),
-        (TWO, hall, more, StartError::NotSquare),
-        (TWO, OF_TWO_BY_ONE, more, StartError::NotSquare),
-    ] {
-        let problem = read_arcs(rt.alloc(), problem.as_bytes(), limits)?;
-        let start = start_prices(rt.alloc(), &problem, &cert_of(&rt, cert)?);
-        assert!(rt; matches!(start, Err(error) if error == expected), "{cert}");
-    }
+    let error = start_error(&rt, ONE, 0, too_high)?;
+    assert_same(&rt, error, Some(StartError::TooHigh { object: 0 }));
+    let other = Some(StartError::OtherSize);
+    assert_same(&rt, start_error(&rt, TWO, 0, too_high)?, other);
+    assert_same(&rt, start_error(&rt, TWO, 0, one.as_str())?, other);
+    assert_same(
+        &rt,
+        start_error(&rt, TWO, 0, hall)?,
+        Some(StartError::NoPrices),
+    );
+    let not_square = Some(StartError::NotSquare);
+    assert_same(
+        &rt,
+        start_error(&rt, "1\n1 1 5\n1 2 3", 2, wide)?,
+        not_square,
+    );
+    assert_same(&rt, start_error(&rt, TWO, 3, hall)?, not_square);
+    assert_same(&rt, start_error(&rt, TWO, 3, OF_TWO_BY_ONE)?, not_square);
     Ok(())
 }

@@ -85,7 +85,7 @@ typedef struct {
     int spare; /* by so many places costs were shifted, where all end in as many zeros */
     /* A cost that is far greater than all others, and what is in its place, or 0; others differ by less than so many
      * units. */
-    double gate;
+    double gate, inner; /* and the greatest of these */
     int64_t gate_cost, gate_span;
     int takes_gate;                          /* whether there may be one */
     int unit, has_gaps, has_tails, is_small; /* small: whole numbers to 10^9 */

@@ -63,16 +63,19 @@ static int look_at_all_floats(const job *w, double *least, double *most) {
 
 /* The first fault of costs, row by row: one that is no cost, or one entry more than are taken. */
 static int refuse(job *w) {
-    size_t entries = w->outlets;
+    int is_float = w->q.type == 'd', is_list = w->q.row != NULL;
+    size_t entries = w->outlets, length = run_length(w), place = 0;
+    double sign = w->sign, most = most_of(w);
     w->kind = SIGDORF_TOO_MANY_ARCS, w->fault = 0;
-    for (size_t e = 0; e < w->q.count; e++) {
-        entries += (size_t)!is_gap(w, (uint32_t)e);
-        if (entries > w->q.most_entries) break;
-        double value = w->q.type == 'd' ? float_at(w, (uint32_t)e) : 0;
-        if (value > -INFINITY && !(w->q.row && value == INFINITY)) continue;
-        w->kind = SIGDORF_COST, w->fault = (uint32_t)e;
-        break;
-    }
+    for (size_t run = 0; run < runs_of(w); run++)
+        for (size_t e = 0; e < length; e++, place++) {
+            double value = is_float ? sign * run_at(w, run)[e] : 0;
+            entries += is_float ? !(value > most) : !is_gap(w, (uint32_t)place);
+            if (entries > w->q.most_entries) return SIGDORF_REFUSED;
+            if (value > -INFINITY && !(is_list && value == INFINITY)) continue;
+            w->kind = SIGDORF_COST, w->fault = (uint32_t)place;
+            return SIGDORF_REFUSED;
+        }
     return SIGDORF_REFUSED;
 }
 
@@ -231,7 +234,7 @@ static void take_gate(job *w, double inner) {
     } while (cost > SIGDORF_MOST_COST);
     /* Less also where the least cost was rounded up. */
     if (!(ldexp(1.01 * (double)cost + 1, -unit) < w->ceiling - w->floor)) return;
-    w->gate = w->ceiling, w->gate_span = span, w->gate_cost = cost, w->unit = unit;
+    w->gate = w->ceiling, w->inner = inner, w->gate_span = span, w->gate_cost = cost, w->unit = unit;
 }
 
 /* Takes the unit. */
@@ -289,8 +292,11 @@ static uint64_t round_all(const double *restrict values, size_t count, double sc
 }
 
 /* The same of whole numbers as they are. */
-static void turn_all(const int64_t *restrict values, size_t count, int64_t sign, int64_t *restrict to) {
-    for (size_t j = 0; j < count; j++) to[j] = sign * values[j];
+static void turn_all(const int64_t *restrict values, size_t count, int64_t sign, int64_t most, int64_t *restrict to) {
+    for (size_t j = 0; j < count; j++) {
+        int64_t value = sign * values[j];
+        to[j] = value < most ? value : most;
+    }
 }
 
 /* Costs in whole units of what is written entry by entry; 0 where none has a tail. */
@@ -306,13 +312,23 @@ static uint64_t write_each(job *w, double rounder) {
     return tails;
 }
 
+/* Writes what a gate costs in the place of each. */
+static void put_gates(const double *restrict values, size_t count, double sign, double inner, int64_t cost,
+                      int64_t *restrict to) {
+    for (size_t j = 0; j < count; j++) to[j] = sign * values[j] > inner ? cost : to[j];
+}
+
 /* A table's costs, where they are doubles that are written run by run. */
 static uint64_t write_runs(job *w, double rounder) {
-    double scale = w->sign * w->scale, most = w->outlets ? w->scale * most_of(w) : INFINITY;
+    double scale = w->sign * w->scale, most = w->gate_cost ? w->inner : w->outlets ? most_of(w) : INFINITY;
     uint64_t tails = 0;
     size_t length = run_length(w);
-    for (size_t run = 0; run < runs_of(w); run++)
-        tails |= round_all(run_at(w, run), length, scale, most, rounder, w->least, w->costs + run * length);
+    for (size_t run = 0; run < runs_of(w); run++) {
+        const double *values = run_at(w, run);
+        int64_t *to = w->costs + run * length;
+        tails |= round_all(values, length, scale, w->scale * most, rounder, w->least, to);
+        if (w->gate_cost) put_gates(values, length, w->sign, w->inner, w->gate_cost, to);
+    }
     return tails;
 }
 
@@ -344,10 +360,11 @@ int write_costs(job *w) {
     double rounder = rounder_of(w->unit);
     uint64_t tails = 0;
     /* Small ones too, in whole units from 0. What ran under as it was read would be no tail there. */
-    if (is_plain && is_float && shift >= 0 && (!w->has_gaps || w->outlets) && !w->gate_cost)
+    if (is_plain && is_float && shift >= 0 && (!w->has_gaps || w->outlets))
         tails = write_runs(w, rounder);
-    else if (is_plain && !is_float && w->is_small && !w->has_gaps)
-        turn_all(w->q.costs, w->q.count, w->sign, w->costs);
+    else if (is_plain && !is_float && w->is_small)
+        turn_all(w->q.costs, w->q.count, w->sign, w->outlets ? w->sign * (int64_t)w->q.whole_limit : INT64_MAX,
+                 w->costs);
     else
         tails = write_each(w, rounder);
     for (size_t i = 0; !w->arcs && i < w->outlets; i++)

@@ -548,6 +548,51 @@ static void beside_paths(int count, int is_match) {
     want("tables beside cheapest paths", bad, 0);
 }
 
+/* Tables near the greatest sizes, whose rows all are the same memory. */
+static void limits(void) {
+    enum { ROWS = 70, MOST_SIDE = SIGDORF_MOST_OBJECTS - 1, STRIDE = SIGDORF_MOST_OBJECTS };
+    size_t row_bytes = STRIDE * sizeof(double), length = (ROWS - 1) * (size_t)STRIDE + MOST_SIDE;
+    FILE *file = tmpfile();
+    unsigned char *rows = file == NULL || ftruncate(fileno(file), (off_t)row_bytes) != 0
+                              ? MAP_FAILED
+                              : mmap(NULL, ROWS * row_bytes, PROT_NONE, MAP_PRIVATE | MAP_ANONYMOUS, -1, 0);
+    int fails = rows == MAP_FAILED;
+    for (size_t i = 0; !fails && i < ROWS; i++)
+        fails = mmap(rows + i * row_bytes, row_bytes, PROT_READ | PROT_WRITE, MAP_SHARED | MAP_FIXED, fileno(file),
+                     0) == MAP_FAILED;
+    if (fails) {
+        printf("skipped: the limits, for want of memory\n");
+        return;
+    }
+    double *costs = (double *)rows;
+    uint32_t choice[ROWS], hall[ROWS];
+    sigdorf_found_f64 found;
+#define SOLVE(persons, objects)                                                                                        \
+    sigdorf_solve_dense_f64(persons, objects, costs, length, STRIDE, SIGDORF_USUAL_BIDS, choice, persons, hall,        \
+                            persons, &found)
+#define MATCH(persons, objects, gate)                                                                                  \
+    sigdorf_match(persons, objects, costs, length, STRIDE, gate, SIGDORF_USUAL_BIDS, choice, persons, &found)
+    for (size_t j = 0; j < STRIDE; j++) costs[j] = 1.5;
+    want("too many entries", SOLVE(ROWS, MOST_SIDE), SIGDORF_REFUSED);
+    want("their kind", found.kind, SIGDORF_TOO_MANY_ARCS);
+    want("too many within the gate", MATCH(ROWS, MOST_SIDE - ROWS, 2.0), SIGDORF_REFUSED);
+    want("their kind", found.kind, SIGDORF_TOO_MANY_ARCS);
+    want("an object too many", MATCH(ROWS, MOST_SIDE - ROWS + 1, 2.0), SIGDORF_REFUSED);
+    want("its kind", found.kind, SIGDORF_OBJECTS);
+    for (size_t j = 0; j < STRIDE; j++) costs[j] = j % 59919 ? INFINITY : (double)(j / 59919) + 0.25;
+    want("most of it gaps", SOLVE(ROWS, MOST_SIDE), SIGDORF_OPTIMAL);
+    want("its sum", found.cost == 69 * 70 / 2 + 70 * 0.25, 1);
+    want("the last object", choice[ROWS - 1], 69 * 59919);
+    want("most beyond the gate", MATCH(ROWS, MOST_SIDE - ROWS, 9.5), SIGDORF_OPTIMAL);
+    want("its pairs", found.persons == 10 && choice[9] == 9 * 59919 && choice[10] == SIGDORF_FREE, 1);
+    /* All are near, and some cost a last bit more. */
+    for (size_t j = 0; j < STRIDE; j++) costs[j] = 1 + 0x1p-52 * (double)(STRIDE - j);
+    costs[0] = 1e9;
+    want("as many objects as there may be", SOLVE(3, MOST_SIDE), SIGDORF_OPTIMAL);
+    want("the cheapest of them", choice[0] + choice[1] + choice[2], 3 * (int64_t)MOST_SIDE - 6);
+    munmap(rows, ROWS * row_bytes), fclose(file);
+}
+
 int main(int words, char **word) {
     int is_small = words > 1 && strcmp(word[1], "--small") == 0;
     costs_fence = fence_new(), choice_fence = fence_new(), hall_fence = fence_new(), found_fence = fence_new();
@@ -558,6 +603,7 @@ int main(int words, char **word) {
     roundings();
     beside_whole(60, 70);
     beside_whole(200, 200);
+    if (!is_small) limits();
     beside_paths(is_small ? 50 : 1000, 0);
     beside_paths(is_small ? 50 : 1000, 1);
     brute_force(is_small ? 1000 : 20000, 0);

@@ -174,8 +174,8 @@ int32_t sigdorf_solve_dense(uint32_t persons, uint32_t objects, const int64_t *c
  * There are no prices: exact ones take more than 64 bits. A field or an array that a status does not name keeps its values.
  *
  * It takes 8 bytes an entry, beside what sigdorf_solve_dense takes of the same table. Of a table of 2,500 entries and more
- * of which a quarter are gaps it takes 20 bytes for each entry that is none, beside what sigdorf_solve takes. How the
- * thread rounds, and whether it flushes small numbers to zero, makes no difference. */
+ * of which a quarter are gaps it takes 20 bytes for each entry that is none, beside what sigdorf_solve takes. In both calls
+ * how the thread rounds, and whether it flushes small numbers to zero, makes no difference. */
 int32_t sigdorf_solve_dense_f64(uint32_t persons, uint32_t objects, const double *costs, size_t costs_len,
                                 size_t stride, uint64_t bids, uint32_t *choice, size_t choice_len,
                                 uint32_t *hall_objects, size_t hall_objects_len, sigdorf_found_f64 *found);
@@ -185,8 +185,7 @@ int32_t sigdorf_solve_dense_f64(uint32_t persons, uint32_t objects, const double
  * means that there is none. Tested only, as the top of this file says.
  *
  * The pairs have the least sum, where a person that stays free costs the gate. So no pair above the gate is made, and one
- * of just the gate counts as much as none. The sum is exact, as above. `gate` is any finite double. The table is not made
- * wider for those that stay free: memory is as above, where an entry above the gate counts as a gap.
+ * of just the gate counts as much as none. The sum is exact, as above. `gate` is any finite double.
  *
  * SIGDORF_OPTIMAL: choice[i] is the OBJECT of person i, or SIGDORF_FREE; no two persons have the same. found->cost is the
  *   double next to the sum of the pairs' costs, and found->persons how many pairs there are. Of several best answers the
@@ -195,7 +194,11 @@ int32_t sigdorf_solve_dense_f64(uint32_t persons, uint32_t objects, const double
  * SIGDORF_BRACKET: the same, but that the sum, with the gate for each person that stays free, is above the least one by
  *   found->gap at most.
  * SIGDORF_SIZES, SIGDORF_MEMORY, SIGDORF_REFUSED: as above; persons and objects number 4,194,303 at most together, and
- *   entries within the gate 268,435,456 at most, together with twice the smaller side. */
+ *   entries within the gate 268,435,456 at most, together with twice the smaller side.
+ *
+ * The table is not made wider for those that stay free: it takes 8 bytes an entry, beside what sigdorf_solve_dense takes of
+ * the same table without gaps. Of a table of 2,500 entries and more of which at most a fifth are within the gate it takes
+ * 20 bytes for each of these, beside what sigdorf_solve takes. */
 int32_t sigdorf_match(uint32_t persons, uint32_t objects, const double *costs, size_t costs_len, size_t stride,
                       double gate, uint64_t bids, uint32_t *choice, size_t choice_len, sigdorf_found_f64 *found);
 

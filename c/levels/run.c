@@ -58,10 +58,11 @@ void end_job(job *w) {
 
 /* Whether entries are solved one by one, and not as a table: of a table with many gaps that took a half to a twentieth
  * of the time (100 to 1,000 rows with 3 to 80 % of all entries, test_road.py); with fewer gaps or rows a table is as
- * fast or faster. */
+ * fast or faster. A table with ways out has no gaps for the library, and is as fast as a list from 12 to 30 % of all
+ * entries within the limit (50 to 500 rows: random costs, and distances in a plane). */
 static int are_listed(const job *w) {
     if (w->q.row || (w->q.start && w->outlets) || w->q.count > SIGDORF_MOST_ARCS) return 1;
-    return w->q.count >= FEWEST_LISTED && w->entries - w->outlets <= w->q.count / 4 * 3;
+    return w->q.count >= FEWEST_LISTED && w->entries - w->outlets <= (w->outlets ? w->q.count / 5 : w->q.count / 4 * 3);
 }
 
 /* Whole costs. */

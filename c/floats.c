@@ -29,12 +29,12 @@ static double above(double value) {
     return value;
 }
 
-/* The least double that isn't below a gap of so many 2^-unit. */
+/* A gap of so many 2^-unit as a double, rounded up. */
 static double rounded_up(int64_t gap, int unit) {
     double units = (double)gap;
     if (units < 0x1p63 && (int64_t)units < gap) units = above(units);
-    double amount = __builtin_ldexp(units, -unit);
-    return __builtin_ldexp(amount, unit) < units ? above(amount) : amount;
+    /* Next to nothing it may be rounded down, but not to less than sums differ by, which are whole in the least double. */
+    return __builtin_ldexp(units, -unit);
 }
 
 /* Writes the object of each row, or SIGDORF_FREE, and what the pairs cost together; answers how many they are. */

@@ -33,7 +33,8 @@ static double above(double value) {
 static double rounded_up(int64_t gap, int unit) {
     double units = (double)gap;
     if (units < 0x1p63 && (int64_t)units < gap) units = above(units);
-    /* Next to nothing it may be rounded down, but not to less than sums differ by, which are whole in the least double. */
+    /* Next to nothing it may be rounded down, but not to less than sums differ by: these are whole in the least
+     * double. */
     return __builtin_ldexp(units, -unit);
 }
 

@@ -1,7 +1,11 @@
-/* Sigdorf as a C library: least-cost assignments of sparse problems, and their checks. docs/C.md shows its use.
+/* Sigdorf as a C library: least-cost assignments of sparse problems and of tables, and their checks. docs/C.md shows its use.
  *
  * What is proved holds of a call that keeps the duties below, and of no other. Nothing on this side of the border is seen by the
  * prover: this file is written by hand, and `c/test` tries its numbers against the library.
+ *
+ * PROVED: the five calls of whole numbers. TESTED ONLY: the two calls of doubles, sigdorf_solve_dense_f64 and
+ * sigdorf_match. They are plain C around the proved calls: each search in whole numbers is proved, and how doubles become
+ * whole numbers is not.
  *
  * DUTIES of the caller, for each call:
  *   1  Each pointer is not null, is aligned as its type, and leads to as many whole values as the length after it says. A length of 0
@@ -56,6 +60,19 @@ typedef struct sigdorf_found {
     uint32_t place;   /* of these but SIGDORF_BRACKET: the arc, entry, person or object that is at fault, or 0 */
 } sigdorf_found;
 
+/* The same of the calls of doubles. 32 bytes. */
+typedef struct sigdorf_found_f64 {
+    double cost;      /* SIGDORF_OPTIMAL, SIGDORF_BRACKET: the double next to the sum; infinite where it is beyond all */
+    double gap;       /* SIGDORF_BRACKET: the sum is above the least one by no more than this */
+    uint32_t persons; /* SIGDORF_INFEASIBLE; of sigdorf_match with a cost also: so many persons have an object */
+    uint32_t objects; /* SIGDORF_INFEASIBLE */
+    uint32_t kind;    /* SIGDORF_REFUSED: a sigdorf_list_fault; SIGDORF_BRACKET: a sigdorf_limit */
+    uint32_t place;   /* SIGDORF_REFUSED: the entry that is at fault, or 0 */
+} sigdorf_found_f64;
+
+/* The object of a person who stays free, in an answer of sigdorf_match. */
+#define SIGDORF_FREE UINT32_MAX
+
 enum sigdorf_status {
     SIGDORF_OPTIMAL = 0,    /* of a check: the claim holds */
     SIGDORF_SIZES = 2,      /* a length is not the number of persons, or of objects; or the table does not lie within its length */
@@ -74,7 +91,9 @@ enum sigdorf_list_fault {
     SIGDORF_TOO_MANY_ARCS, /* 268,435,456 arcs are right, and one more comes after them */
     SIGDORF_PERSON,        /* the person of arc `place` is none of the problem */
     SIGDORF_OBJECT,        /* the object of arc `place` is none of the problem */
-    SIGDORF_COST           /* the cost of arc `place`, or of the entry at this place, is beyond 10^9 in magnitude */
+    SIGDORF_COST,          /* the cost of arc `place`, or of the entry at this place, is beyond 10^9 in magnitude; of
+                              doubles: it is NaN or -infinity */
+    SIGDORF_GATE           /* of sigdorf_match, after the first two: the gate is NaN or infinite */
 };
 
 enum sigdorf_start_fault {
@@ -139,6 +158,50 @@ int32_t sigdorf_solve_dense(uint32_t persons, uint32_t objects, const int64_t *c
                             const int64_t *start, size_t start_len, uint64_t bids, uint32_t *choice, size_t choice_len, int64_t *prices,
                             size_t prices_len, uint32_t *hall_objects, size_t hall_objects_len, sigdorf_found *found);
 
+/* Solves the problem of a table of doubles, which lies as that of sigdorf_solve_dense. Any finite cost is taken as the
+ * number that it is, and counts to its last bit; +infinity is no arc, but a gap. Tested only, as the top of this file says.
+ *
+ * SIGDORF_OPTIMAL: choice[i] is the OBJECT of person i; no two persons have the same; and no assignment has a smaller sum
+ *   of just these doubles, added without rounding. found->cost is the double next to that sum. Of several least
+ *   assignments the first is written: person 0 has the lowest object that it has in any of them, then person 1 the lowest
+ *   that this leaves, and so on.
+ * SIGDORF_BRACKET: an assignment whose sum is above the least one by found->gap at most, which was rounded up. It is left
+ *   only where a phase has made `bids` bids, or the next bid would be above 2^61.
+ * SIGDORF_INFEASIBLE: as of sigdorf_solve.
+ * SIGDORF_SIZES, SIGDORF_MEMORY, SIGDORF_REFUSED: as of sigdorf_solve_dense, but that there are 4,194,303 objects at most,
+ *   and that entries that are no gap number 268,435,456 at most together with the persons. NaN and -infinity are
+ *   SIGDORF_COST.
+ * There are no prices: exact ones take more than 64 bits. A field or an array that a status does not name keeps its values.
+ *
+ * It takes 8 bytes an entry, beside what sigdorf_solve_dense takes of the same table. Of a table of 2,500 entries and more
+ * of which a quarter are gaps it takes 20 bytes for each entry that is none, beside what sigdorf_solve takes. In both calls
+ * how the thread rounds, and whether it flushes small numbers to zero, makes no difference. */
+int32_t sigdorf_solve_dense_f64(uint32_t persons, uint32_t objects, const double *costs, size_t costs_len,
+                                size_t stride, uint64_t bids, uint32_t *choice, size_t choice_len,
+                                uint32_t *hall_objects, size_t hall_objects_len, sigdorf_found_f64 *found);
+
+/* Pairs persons with objects where that costs no more than a gate, as trackers ask: whoever has no good object stays free.
+ * The table is that of sigdorf_solve_dense_f64, but that there may be any numbers of persons and objects; 0 of either
+ * means that there is none. Tested only, as the top of this file says.
+ *
+ * The pairs have the least sum, where a person that stays free costs the gate. So no pair above the gate is made, and one
+ * of just the gate counts as much as none. The sum is exact, as above. `gate` is any finite double.
+ *
+ * SIGDORF_OPTIMAL: choice[i] is the OBJECT of person i, or SIGDORF_FREE; no two persons have the same. found->cost is the
+ *   double next to the sum of the pairs' costs, and found->persons how many pairs there are. Of several best answers the
+ *   first is written, as above, where staying free comes after all objects; with more persons than objects the same goes
+ *   for objects.
+ * SIGDORF_BRACKET: the same, but that the sum, with the gate for each person that stays free, is above the least one by
+ *   found->gap at most.
+ * SIGDORF_SIZES, SIGDORF_MEMORY, SIGDORF_REFUSED: as above; persons and objects number 4,194,303 at most together, and
+ *   entries within the gate 268,435,456 at most, together with twice the smaller side.
+ *
+ * The table is not made wider for those that stay free: it takes 8 bytes an entry, beside what sigdorf_solve_dense takes of
+ * the same table without gaps. Of a table of 2,500 entries and more of which at most a fifth are within the gate it takes
+ * 20 bytes for each of these, beside what sigdorf_solve takes. */
+int32_t sigdorf_match(uint32_t persons, uint32_t objects, const double *costs, size_t costs_len, size_t stride,
+                      double gate, uint64_t bids, uint32_t *choice, size_t choice_len, sigdorf_found_f64 *found);
+
 /* Checks an answer, whoever found it. SIGDORF_OPTIMAL: choice, cost and prices are as under SIGDORF_OPTIMAL above. */
 int32_t sigdorf_check(uint32_t persons, uint32_t objects, const sigdorf_arc *arcs, size_t arcs_len, const uint32_t *choice,
                       size_t choice_len, const int64_t *prices, size_t prices_len, int64_t cost, sigdorf_found *found);
@@ -159,6 +222,7 @@ const char *sigdorf_status_text(int32_t status);
 #if defined(__STDC_VERSION__) && __STDC_VERSION__ >= 201112L
 _Static_assert(sizeof(sigdorf_arc) == 16 && offsetof(sigdorf_arc, person) == 8 && offsetof(sigdorf_arc, object) == 12, "layout of an arc");
 _Static_assert(sizeof(sigdorf_found) == 32 && offsetof(sigdorf_found, persons) == 16 && offsetof(sigdorf_found, place) == 28, "layout of what is found");
+_Static_assert(sizeof(sigdorf_found_f64) == 32 && offsetof(sigdorf_found_f64, place) == 28, "layout of doubles' found");
 #endif
 
 #endif

@@ -13,6 +13,8 @@ from setuptools.command.sdist import sdist
 from wheel.bdist_wheel import bdist_wheel
 
 HERE = pathlib.Path(__file__).resolve().parent
+# The library's header and the sources that it shares with the extension: in a clone, or in an archive of these sources.
+SHARED = next(place for place in (HERE.parent / "c", HERE) if (place / "sigdorf.h").exists())
 # The least version of CPython that loads the extension.
 LEAST = "cp310"
 # A script of the name `build` is where setuptools would have its folder.
@@ -38,12 +40,12 @@ class Extension(build_ext):
 
 
 class Sources(sdist):
-    """The sources with the library's header among them."""
+    """The sources with the library's header and levels among them."""
 
     def make_release_tree(self, base_dir, files):
-        super().make_release_tree(base_dir, files)
-        header = next(place for place in (HERE.parent / "c" / "sigdorf.h", HERE / "sigdorf.h") if place.exists())
-        shutil.copyfile(header, os.path.join(base_dir, "sigdorf.h"))
+        super().make_release_tree(base_dir, [file for file in files if not file.startswith(os.pardir)])
+        shutil.copyfile(SHARED / "sigdorf.h", os.path.join(base_dir, "sigdorf.h"))
+        shutil.copytree(SHARED / "levels", os.path.join(base_dir, "levels"), dirs_exist_ok=True)
 
 
 class Wheel(bdist_wheel):
@@ -62,14 +64,19 @@ class Wheel(bdist_wheel):
         return (LEAST, "abi3", machine) if has_extension else ("py3", "none", machine)
 
 
-flags = ["-std=c11", "-O3", "-fvisibility=hidden"] + ["-march=x86-64-v2"] * (platform.machine() == "x86_64")
+def sources():
+    files = [*HERE.glob("sigdorf/_*.c"), *SHARED.glob("levels/*.c")]
+    return sorted(os.path.relpath(file, HERE) for file in files)
+
+
+flags = ["-std=c11", "-O3", "-ffp-contract=off", "-fvisibility=hidden"] + ["-march=x86-64-v2"] * (platform.machine() == "x86_64")
 setuptools.setup(
     ext_modules=[
         setuptools.Extension(
             "sigdorf._fast",
-            sorted(f"sigdorf/{file.name}" for file in HERE.glob("sigdorf/_*.c")),
-            depends=["sigdorf/_fast.h"],
-            include_dirs=["../c", "."],
+            sources(),
+            depends=[os.path.relpath(SHARED / "levels" / "levels.h", HERE)],
+            include_dirs=[str(SHARED), str(SHARED / "levels")],
             extra_compile_args=flags,
             extra_link_args=["-s"],
             libraries=["m"],

@@ -3,9 +3,11 @@
  *
  *     memory CALL SHAPE PERSONS DEGREE
  *
- * CALL is solve, messages or dense. SHAPE is uniform (DEGREE objects of each person, one of them planted; of dense a full table), gaps (of
- * dense: a table with DEGREE entries a row at most) or products (all pairs, whose cost is the product of the two numbers). */
+ * CALL is solve, messages, dense, or of doubles f64 or match. SHAPE is uniform (DEGREE objects of each person, one of
+ * them planted; of tables full ones), gaps (a table with DEGREE entries a row at most) or products (all pairs, whose cost
+ * is the product of the two numbers). Doubles are a third of these costs; the gate is a tenth of the greatest. */
 #include "../../c/sigdorf.h"
+#include <math.h>
 #include <stdio.h>
 #include <stdlib.h>
 #include <string.h>
@@ -44,12 +46,24 @@ static int64_t cost_of(const char *shape, uint32_t person, uint32_t object) {
     return strcmp(shape, "products") ? 1 + (int64_t)drawn(10000) : (int64_t)(person + 1) * (object + 1);
 }
 
+/* Makes doubles of a table of whole numbers, where it is. */
+static void make_doubles(void *table, size_t count, int64_t none) {
+    for (size_t place = 0; place < count; place++) {
+        int64_t whole;
+        char *here = (char *)table + place * sizeof whole;
+        memcpy(&whole, here, sizeof whole);
+        double cost = whole == none ? INFINITY : (double)whole / 3;
+        memcpy(here, &cost, sizeof cost);
+    }
+}
+
 int main(int words, char **word) {
     if (words != 5)
         return 2;
     const char *call = word[1], *shape = word[2];
     uint32_t persons = (uint32_t)atoi(word[3]), degree = (uint32_t)atoi(word[4]);
-    int is_dense = !strcmp(call, "dense"), is_full = !strcmp(shape, "products");
+    int is_f64 = !strcmp(call, "f64"), is_match = !strcmp(call, "match");
+    int is_dense = is_f64 || is_match || !strcmp(call, "dense"), is_full = !strcmp(shape, "products");
     size_t count = is_dense ? (size_t)persons * persons : (size_t)persons * (is_full ? persons : degree);
     size_t size = is_dense ? sizeof(int64_t) : sizeof(sigdorf_arc);
     void *given = taken(count * size);
@@ -68,10 +82,19 @@ int main(int words, char **word) {
         else
             ((sigdorf_arc *)given)[place] = (sigdorf_arc){cost, person, object};
     }
+    if (is_f64 || is_match)
+        make_doubles(given, count, none);
     sigdorf_found found = {0};
-    double before = peak();
+    sigdorf_found_f64 found_f64 = {0};
+    double before = peak(), gate = (is_full ? (double)persons * persons : 10000) / 30;
     int32_t status;
-    if (is_dense)
+    if (is_f64)
+        status = sigdorf_solve_dense_f64(persons, persons, given, count, persons, SIGDORF_USUAL_BIDS, choice, persons,
+                                         set, persons, &found_f64);
+    else if (is_match)
+        status = sigdorf_match(persons, persons, given, count, persons, gate, SIGDORF_USUAL_BIDS, choice, persons,
+                               &found_f64);
+    else if (is_dense)
         status = sigdorf_solve_dense(persons, persons, given, count, persons, none, prices, 0, SIGDORF_USUAL_BIDS, choice, persons, prices,
                                      persons, set, persons, &found);
     else

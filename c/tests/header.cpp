@@ -18,9 +18,15 @@ int main() {
     failed += sigdorf_solve_by_messages(4, 0, arcs.data(), arcs.size(), &no_start, 0, SIGDORF_USUAL_BIDS, choice.data(), choice.size(), prices.data(),
                                         prices.size(), hall.data(), hall.size(), &found) != SIGDORF_OPTIMAL;
     failed += sigdorf_check(4, 0, arcs.data(), arcs.size(), choice.data(), choice.size(), prices.data(), prices.size(), 145, &found) != SIGDORF_OPTIMAL;
+    const std::vector<double> table = {0.1, 0.2, 0.1, 0.4};
+    sigdorf_found_f64 exact = sigdorf_found_f64();
+    failed += sigdorf_solve_dense_f64(2, 2, table.data(), table.size(), 2, SIGDORF_USUAL_BIDS, choice.data(), 2,
+                                      hall.data(), 2, &exact) != SIGDORF_OPTIMAL || choice[0] != 1;
+    failed += sigdorf_match(2, 2, table.data(), table.size(), 2, 0.15, SIGDORF_USUAL_BIDS, choice.data(), 2,
+                            &exact) != SIGDORF_OPTIMAL || choice[1] != SIGDORF_FREE || exact.cost != 0.1;
     char version[16];
     std::snprintf(version, sizeof version, "%d.%d", SIGDORF_VERSION_MAJOR, SIGDORF_VERSION_MINOR);
     failed += std::strcmp(version, SIGDORF_VERSION) != 0;
-    std::printf("%d passed, %d failed\n", 5 - failed, failed);
+    std::printf("%d passed, %d failed\n", 7 - failed, failed);
     return failed != 0;
 }

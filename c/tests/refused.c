@@ -1,6 +1,8 @@
 /* Refuses each allocation of each call in turn: the status is SIGDORF_MEMORY until nothing is refused, nothing is written, and nothing stays
- * taken. Linked with --wrap. The last line is `N passed, M failed`. */
+ * taken. And the most memory that calls of doubles take. Linked with --wrap. The last line is `N passed, M failed`. */
 #include "sigdorf.h"
+#include <malloc.h>
+#include <math.h>
 #include <stdio.h>
 #include <stdlib.h>
 #include <string.h>
@@ -10,6 +12,13 @@ void *__real_realloc(void *, size_t);
 void __real_free(void *);
 
 static long left = -1, taken;
+static size_t bytes, most_bytes;
+
+static void *counted(void *block) {
+    bytes += block == NULL ? 0 : malloc_usable_size(block);
+    most_bytes = bytes > most_bytes ? bytes : most_bytes;
+    return block;
+}
 
 static int is_refused(void) { return left >= 0 && left-- == 0; }
 
@@ -17,7 +26,7 @@ void *__wrap_malloc(size_t size) {
     if (is_refused())
         return NULL;
     taken++;
-    return __real_malloc(size);
+    return counted(__real_malloc(size));
 }
 
 void *__wrap_realloc(void *old, size_t size) {
@@ -25,12 +34,16 @@ void *__wrap_realloc(void *old, size_t size) {
         return NULL;
     if (old == NULL)
         taken++;
-    return __real_realloc(old, size);
+    else
+        bytes -= malloc_usable_size(old);
+    return counted(__real_realloc(old, size));
 }
 
 void __wrap_free(void *old) {
-    if (old != NULL)
+    if (old != NULL) {
         taken--;
+        bytes -= malloc_usable_size(old);
+    }
     __real_free(old);
 }
 
@@ -40,6 +53,11 @@ static sigdorf_arc both[] = {{1, 0, 1}, {1, 1, 1}};
 static uint32_t choice[2], objects[2];
 static int64_t prices[4], nothing[1], start[4] = {1, 0, 5, 0};
 static sigdorf_found found;
+static sigdorf_found_f64 found_f64;
+/* Whole units leave these open, so that a round decides. */
+static double parts[] = {1, 1 + 0x1p-40, 1e9, 1, 1 + 0x1p-45, 1e9};
+static double gaps[] = {INFINITY, 1, INFINITY, INFINITY, 4, INFINITY};
+static double few[] = {0.1, 0.2, INFINITY, 0.1, 0.4, 0.9};
 
 static int32_t solve(void) { return sigdorf_solve(2, 0, arcs, 4, nothing, 0, SIGDORF_USUAL_BIDS, choice, 2, prices, 2, objects, 2, &found); }
 static int32_t solve_from(void) { return sigdorf_solve(2, 4, arcs, 4, start, 4, SIGDORF_USUAL_BIDS, choice, 2, prices, 4, objects, 2, &found); }
@@ -51,6 +69,13 @@ static int32_t stop_table(void) { return sigdorf_solve_dense(2, 3, table, 6, 3, 
 static int32_t stop(void) { return sigdorf_solve(2, 4, arcs, 4, nothing, 0, 0, choice, 2, prices, 4, objects, 2, &found); }
 static int32_t by_messages(void) { return sigdorf_solve_by_messages(2, 0, arcs, 4, start, 2, SIGDORF_USUAL_BIDS, choice, 2, prices, 2, objects, 2, &found); }
 static int32_t solve_both(void) { return sigdorf_solve(2, 0, both, 2, nothing, 0, SIGDORF_USUAL_BIDS, choice, 2, prices, 2, objects, 2, &found); }
+static int32_t doubles(const double *costs, uint64_t bids) {
+    return sigdorf_solve_dense_f64(2, 3, costs, 6, 3, bids, choice, 2, objects, 2, &found_f64);
+}
+static int32_t solve_doubles(void) { return doubles(parts, SIGDORF_USUAL_BIDS); }
+static int32_t solve_gaps(void) { return doubles(gaps, SIGDORF_USUAL_BIDS); }
+static int32_t stop_doubles(void) { return doubles(few, 0); }
+static int32_t match(void) { return sigdorf_match(2, 3, parts, 6, 3, 1.5, SIGDORF_USUAL_BIDS, choice, 2, &found_f64); }
 static int32_t check(void) { return sigdorf_check(2, 0, arcs, 4, (uint32_t[]){1, 2}, 2, (int64_t[]){0, 0}, 2, 7, &found); }
 static int32_t check_hall(void) { return sigdorf_check_hall(2, 0, both, 2, (uint32_t[]){0, 1}, 2, (uint32_t[]){1}, 1, &found); }
 
@@ -63,6 +88,7 @@ static void refuse_each(const char *name, int32_t (*call)(void), int32_t status)
         memset(prices, 0x55, sizeof prices);
         memset(objects, 0x55, sizeof objects);
         memset(&found, 0x55, sizeof found);
+        memset(&found_f64, 0x55, sizeof found_f64);
         left = refused;
         int32_t got = call();
         if (taken != 0)
@@ -71,11 +97,34 @@ static void refuse_each(const char *name, int32_t (*call)(void), int32_t status)
             bad += got != status;
             break;
         }
-        bad += got != SIGDORF_MEMORY || choice[0] != 0x55555555 || prices[0] != 0x5555555555555555 || objects[0] != 0x55555555 || found.cost != 0x5555555555555555;
+        bad += got != SIGDORF_MEMORY || choice[0] != 0x55555555 || prices[0] != 0x5555555555555555 ||
+               objects[0] != 0x55555555 || found.cost != 0x5555555555555555 || found_f64.kind != 0x55555555;
     }
     left = -1;
     printf("%s: %ld allocations refused in turn\n", name, refused);
     *(bad == 0 ? &passed : &failed) += 1;
+}
+
+/* Beside the caller's table a quarter more than it at most: without gaps, or with a gate. */
+static void want_little(const char *name, int is_match) {
+    enum { SIDE = 400 };
+    static double costs[SIDE * SIDE];
+    static uint32_t chosen[SIDE], hall[SIDE];
+    uint32_t state = 1;
+    for (size_t k = 0; k < SIDE * SIDE; k++) {
+        state = state * 1664525 + 1013904223;
+        costs[k] = state * 0x1p-32;
+    }
+    most_bytes = bytes;
+    size_t before = bytes;
+    const size_t count = SIDE * SIDE;
+    const uint64_t bids = SIGDORF_USUAL_BIDS;
+    int32_t status = is_match ? sigdorf_match(SIDE, SIDE, costs, count, SIDE, 0.9, bids, chosen, SIDE, &found_f64)
+                              : sigdorf_solve_dense_f64(SIDE, SIDE, costs, count, SIDE, bids, chosen, SIDE, hall, SIDE,
+                                                        &found_f64);
+    double share = (double)(most_bytes - before) / sizeof costs;
+    printf("%s: %.2f of the table\n", name, share);
+    *(status == SIGDORF_OPTIMAL && share <= 1.25 && bytes == before ? &passed : &failed) += 1;
 }
 
 int main(void) {
@@ -89,6 +138,12 @@ int main(void) {
     refuse_each("solve without bids", stop, SIGDORF_BRACKET);
     refuse_each("solve by messages", by_messages, SIGDORF_OPTIMAL);
     refuse_each("solve of what has no assignment", solve_both, SIGDORF_INFEASIBLE);
+    refuse_each("solve of doubles", solve_doubles, SIGDORF_OPTIMAL);
+    refuse_each("solve of doubles without an assignment", solve_gaps, SIGDORF_INFEASIBLE);
+    refuse_each("solve of doubles without bids", stop_doubles, SIGDORF_BRACKET);
+    refuse_each("match", match, SIGDORF_OPTIMAL);
+    want_little("solve of doubles", 0);
+    want_little("match", 1);
     refuse_each("check", check, SIGDORF_INVALID);
     refuse_each("check_hall", check_hall, SIGDORF_OPTIMAL);
     printf("%d passed, %d failed\n", passed, failed);

@@ -1,6 +1,7 @@
 /* More objects than persons, with costs that differ so much that bids by the smallest steps would take very long: each is solved in less than a
  * second, from nothing and from starts, and its cost is that of another method. The last line is `N passed, M failed`. */
 #include "sigdorf.h"
+#include "least.h"
 #include "want.h"
 #include <inttypes.h>
 #include <stdio.h>
@@ -8,9 +9,6 @@
 #include <time.h>
 
 enum { MOST_ROWS = 100, MOST_COLUMNS = 150 };
-
-/* What costs that much is no arc. */
-static const int64_t NONE = INT64_C(1) << 40;
 
 typedef struct problem {
     const char *name;
@@ -23,45 +21,7 @@ static uint32_t choice[MOST_ROWS], hall_objects[MOST_ROWS];
 static int64_t prices[MOST_COLUMNS], start[MOST_COLUMNS];
 static sigdorf_found found;
 
-/* The least cost by cheapest paths, row by row, with a price of each row and column (Kuhn 1955; Jonker and Volgenant 1987). */
-static int64_t least_cost(const problem *p) {
-    int64_t of_row[MOST_ROWS + 1] = {0}, of_column[MOST_COLUMNS + 1] = {0}, near[MOST_COLUMNS + 1], sum = 0;
-    uint32_t holder[MOST_COLUMNS + 1] = {0}, before[MOST_COLUMNS + 1] = {0};
-    for (uint32_t row = 1; row <= p->rows; row++) {
-        int is_reached[MOST_COLUMNS + 1] = {0};
-        uint32_t here = 0;
-        for (uint32_t j = 0; j <= p->columns; j++)
-            near[j] = INT64_MAX;
-        holder[0] = row;
-        do {
-            uint32_t next = 0;
-            int64_t step = INT64_MAX;
-            is_reached[here] = 1;
-            for (uint32_t j = 1; j <= p->columns; j++) {
-                if (is_reached[j])
-                    continue;
-                int64_t way = p->costs[holder[here] - 1][j - 1] - of_row[holder[here]] - of_column[j];
-                if (way < near[j])
-                    near[j] = way, before[j] = here;
-                if (near[j] < step)
-                    step = near[j], next = j;
-            }
-            for (uint32_t j = 0; j <= p->columns; j++) {
-                if (is_reached[j])
-                    of_row[holder[j]] += step, of_column[j] -= step;
-                else if (j > 0)
-                    near[j] -= step;
-            }
-            here = next;
-        } while (holder[here] != 0);
-        for (; here != 0; here = before[here])
-            holder[here] = holder[before[here]];
-    }
-    for (uint32_t j = 1; j <= p->columns; j++)
-        if (holder[j] != 0)
-            sum += p->costs[holder[j] - 1][j - 1];
-    return sum;
-}
+static int64_t least_of(const problem *p) { return least_cost(p->costs[0], p->rows, p->columns, MOST_COLUMNS); }
 
 static size_t arcs_of(const problem *p) {
     size_t count = 0;
@@ -100,7 +60,7 @@ static void fill(int64_t price, uint32_t columns) {
 
 static void try(const problem *p, int64_t least) {
     size_t count = arcs_of(p);
-    want(p->name, least_cost(p), least);
+    want(p->name, least_of(p), least);
     want_least(p, count, 0, least);
     memcpy(start, prices, sizeof start);
     want_least(p, count, p->columns, least);
@@ -129,7 +89,7 @@ static void with_ends(const char *name, uint32_t rows, uint32_t shared, int64_t 
             state = state * 1664525 + 1013904223;
             p.costs[i][j] = j < shared ? (int64_t)((state >> 16) % 10) : j - shared == i ? end : NONE;
         }
-    try(&p, least_cost(&p));
+    try(&p, least_of(&p));
 }
 
 int main(void) {

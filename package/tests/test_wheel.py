@@ -57,6 +57,7 @@ class Wheel(PackageTest):
         shutil.copytree(ROOT / "python", self.folder / "python", ignore=shutil.ignore_patterns("*.so", "__pycache__", "dist", "*.egg-info"))
         (self.folder / "c").mkdir()
         shutil.copy(ROOT / "c/sigdorf.h", self.folder / "c")
+        shutil.copytree(ROOT / "c/levels", self.folder / "c/levels")
         before = {path.relative_to(self.folder) for path in self.folder.rglob("*")}
         wheel = self.wheel_of("./python", **self.library)
         self.assert_wheel(wheel)
@@ -76,11 +77,12 @@ class Wheel(PackageTest):
         stage = self.folder / "stage"
         shutil.copytree(ROOT / "python", stage, ignore=shutil.ignore_patterns("*.so", "__pycache__", "dist", "*.egg-info", "tests"))
         shutil.copy(ROOT / "c/sigdorf.h", stage)
+        shutil.copytree(ROOT / "c/levels", stage / "levels")
         self.done(sys.executable, "-W", "ignore", "setup.py", "-q", "sdist", "--dist-dir", self.folder, cwd=stage)
         archive = self.folder / f"sigdorf-{VERSION}.tar.gz"
         with tarfile.open(archive) as sources:
             names = {name.partition("/")[2] for name in sources.getnames()}
-        self.assertTrue({"setup.py", "pyproject.toml", "sigdorf.h", "sigdorf/_ties.c", "sigdorf/_fast.h", "sigdorf/py.typed"} <= names, names)
+        self.assertTrue({"setup.py", "pyproject.toml", "sigdorf.h", "sigdorf/_fast.c", "levels/ties.c", "levels/levels.h", "sigdorf/py.typed"} <= names, names)
         self.assert_wheel(self.wheel_of(archive, **self.library))
 
     @wants("cc")

@@ -96,7 +96,14 @@ def matched(asked, limit, bids):
     if found is None:
         return _by_lists(asked, limit, bids)
     rows, columns, places, free_rows, free_columns = found
-    return Match(rows, columns, free_rows, free_columns, asked.costs[places] if asked.table is None else asked.table[rows, columns], asked.labels(rows, columns))
+    return Match(rows, columns, free_rows, free_columns, _costs_of(asked, rows, columns, places), asked.labels(rows, columns))
+
+
+def _costs_of(asked, rows, columns, places):
+    """The caller's costs of pairs: by their places in a table that lies row by row, which is sooner done."""
+    if asked.table is None:
+        return asked.costs[places]
+    return asked.table.take(places) if asked.table.flags.c_contiguous else asked.table[rows, columns]
 
 
 def _limit_of(costs, limit):

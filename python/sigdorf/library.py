@@ -12,7 +12,7 @@ from .waiting import call_waiting
 ARC = numpy.dtype([("cost", "<i8"), ("person", "<u4"), ("object", "<u4")])
 OPTIMAL, SIZES, INFEASIBLE, BRACKET, REFUSED, MEMORY, START = 0, 2, 3, 4, 5, 6, 7
 INVALID = INFEASIBLE
-# The usual bids of a phase are few for millions of persons, each of whom may bid in it: BIDS_EACH at least. _fast.h has the same.
+# The usual bids of a phase are few for millions of persons, each of whom may bid in it: BIDS_EACH at least. c/levels has the same.
 USUAL_BIDS, BIDS_EACH = 100_000_000, 1_000
 # A call with fewer arcs ends so soon that a thread of its own isn't worth its time.
 FEWEST = 2_000

@@ -7,7 +7,8 @@ from .problem import Lists
 
 def is_listed(limit):
     """Whether a limit is a list of them."""
-    return not isinstance(limit, (str, bytes)) and attempt(len, limit) is not None
+    # To ask a number for its length takes as long as all else of a small call.
+    return not isinstance(limit, (float, int, str, bytes)) and attempt(len, limit) is not None
 
 
 def limits_of(given, count, name, side):

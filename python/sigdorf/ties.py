@@ -1,6 +1,6 @@
 """Of several least assignments the first: the first person has the lowest object that he has in any of them, then the second, and so on.
 
-_ties.c does the same, and says why that hangs on nothing but the problem.
+c/levels/ties.c does the same, and says why that hangs on nothing but the problem.
 """
 import collections
 
@@ -110,7 +110,7 @@ class Search:
             self._lead(holders.spare, holders.held[person])
 
     def met_from(self, other, object):
-        """One who is on a way from a holder of this object to the person's own, or None. It is looked for from both ends, as _ties.c does."""
+        """One who is on a way from a holder of this object to the person's own, or None. It is looked for from both ends, as c/levels does."""
         met, spare = self._reach(other, self.person, object), self._holders.spare
         while met is None:
             if not self._ahead and spare not in self.given or not self._back and spare not in self.takes:

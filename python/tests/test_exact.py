@@ -8,7 +8,7 @@ from limited import Limited, numpy, sigdorf
 
 if numpy:
     import floats
-    from sigdorf import near
+    from sigdorf import fast, near
 
 TWO = [0, 0, 1, 1], [0, 1, 0, 1]
 
@@ -20,7 +20,9 @@ class Random(Limited):
 
     def test_where_there_is_no_room_for_one_more(self):
         """The way that a problem of 4,194,304 objects takes, with a smaller limit."""
-        with unittest.mock.patch.object(near, "_left_over", wraps=near._left_over) as left_over:
+        # The extension would answer these by itself.
+        without = unittest.mock.patch.object(fast, "_extension", None)
+        with without, unittest.mock.patch.object(near, "_left_over", wraps=near._left_over) as left_over:
             for columns in range(3, 9):
                 with unittest.mock.patch.object(near, "MOST_OBJECTS", columns):
                     for number in range(30):

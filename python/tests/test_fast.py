@@ -20,6 +20,9 @@ if numpy:
     from sigdorf import fast, library
     from sigdorf.amounts import exact_sum
 
+SIZE, WORD = ctypes.c_size_t, ctypes.c_void_p
+# The words of sigdorf_solve_dense; addresses are whole numbers.
+DENSE = [ctypes.c_uint32, ctypes.c_uint32, WORD, SIZE, SIZE, ctypes.c_int64, WORD, SIZE, ctypes.c_uint64, WORD, SIZE, WORD, SIZE, WORD, SIZE, WORD]
 KINDS = ("i1", "u1", "i2", "u2", "i4", "u4", "i8", "u8", "?", "f4", "f8", ">i4", ">f8", "f2", "g")
 
 
@@ -234,6 +237,30 @@ class Fast(Limited):
                     self.assertEqual(sigdorf.solve_many([matrix] * 3, 1)[2].columns.tolist(), [1, 0])
                 finally:
                     fast._extension.bind(*real)
+
+    def test_raised_prices(self):
+        """A limit's answer is the same where all prices of a square table are higher, which the library may answer too."""
+        kind, real = ctypes.PYFUNCTYPE(ctypes.c_int32, *DENSE), (fast.address_of("sigdorf_solve_dense"), fast.address_of("sigdorf_solve"))
+        solve_dense, calls = kind(real[0]), []
+
+        def raised(*words):
+            calls.append(words[:2])
+            status, prices = solve_dense(*words), (ctypes.c_int64 * words[12]).from_address(words[11])
+            for place in range(len(prices)):
+                prices[place] += 77 * (words[0] + 1) + 5
+            return status
+
+        other, random = kind(raised), numpy.random.default_rng(5)
+        matrices = [make(random, (6, 6)) for make in (floats.ties, floats.levels, floats.last_bits, floats.half_units) for _ in range(20)]
+        limits = [random.choice(matrix.ravel()).item() for matrix in matrices]
+        answers = [sigdorf.match(matrix, limit) for matrix, limit in zip(matrices, limits)]
+        fast._extension.bind(ctypes.cast(other, ctypes.c_void_p).value, real[1])
+        try:
+            self.assertEqual([sigdorf.match(matrix, limit) for matrix, limit in zip(matrices, limits)], answers)
+        finally:
+            fast._extension.bind(*real)
+        self.assertEqual(calls, [(6, 6)] * len(matrices))
+        self.assertGreater(sum(len(answer.free_rows) > 0 for answer in answers), 20)
 
     def test_memory(self):
         """Nothing is kept of what a call has seen or made."""

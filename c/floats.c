@@ -1,0 +1,123 @@
+/* The library's calls of doubles, over a table as it lies in memory: c/levels solves it by the proved calls. */
+#include <string.h>
+
+#include "levels.h"
+
+/* A round of a level has an object more than the problem, and an arc more of each person. */
+enum { MOST_SIDE = SIGDORF_MOST_OBJECTS - 1 };
+
+static const library OWN = {sigdorf_solve, sigdorf_solve_dense};
+
+/* Whether a table of so many rows and columns lies within a length. */
+static int lies_within(uint64_t rows, uint64_t columns, size_t length, size_t stride) {
+    if (stride < columns || rows * columns >> 32) return 0;
+    return !rows || (length >= columns && (rows == 1 || stride <= (length - columns) / (rows - 1)));
+}
+
+static int32_t refused(sigdorf_found_f64 *found, uint32_t kind, uint32_t place) {
+    found->kind = kind;
+    found->place = place;
+    return SIGDORF_REFUSED;
+}
+
+/* The double after one from 0. */
+static double above(double value) {
+    uint64_t bits;
+    memcpy(&bits, &value, sizeof bits);
+    bits++;
+    memcpy(&value, &bits, sizeof bits);
+    return value;
+}
+
+/* A gap of so many 2^-unit as a double, rounded up. */
+static double rounded_up(int64_t gap, int unit) {
+    double units = (double)gap;
+    if (units < 0x1p63 && (int64_t)units < gap) units = above(units);
+    /* Next to nothing it may be rounded down, but not to less than sums differ by: these are whole in the least
+     * double. */
+    return __builtin_ldexp(units, -unit);
+}
+
+/* Writes the object of each row, or SIGDORF_FREE, and what the pairs cost together; answers how many they are. */
+static uint32_t write_pairs_of(const job *w, uint32_t *choice, double *cost) {
+    const double *costs = w->q.costs;
+    wide_sum sum = {{0}};
+    uint32_t pairs = 0;
+    for (size_t i = 0; i < w->q.rows; i++) choice[i] = SIGDORF_FREE;
+    for (size_t i = 0; i < w->persons; i++) {
+        size_t object = object_of(w, i, w->choice[i]);
+        if (object >= w->width) continue;
+        size_t row = w->by_columns ? object : i, column = w->by_columns ? i : object;
+        choice[row] = (uint32_t)column;
+        add_to(&sum, costs[row * w->q.stride + column]);
+        pairs++;
+    }
+    *cost = nearest_to(&sum);
+    return pairs;
+}
+
+/* Writes what a job has found. */
+static void write_found(const job *w, int status, uint32_t *choice, uint32_t *hall, sigdorf_found_f64 *found) {
+    if (status == SIGDORF_OPTIMAL || status == SIGDORF_BRACKET) {
+        uint32_t pairs = write_pairs_of(w, choice, &found->cost);
+        if (w->q.has_limit) found->persons = pairs;
+    }
+    if (status == SIGDORF_BRACKET) {
+        found->gap = rounded_up(w->gap, w->gap_unit);
+        found->kind = w->kind;
+    }
+    if (status == SIGDORF_REFUSED) refused(found, w->kind, w->fault);
+    if (status == SIGDORF_INFEASIBLE) {
+        found->persons = w->hall_persons, found->objects = w->hall_objects;
+        memcpy(choice, w->choice, w->persons * sizeof *choice);
+        memcpy(hall, w->hall, w->persons * sizeof *hall);
+    }
+}
+
+/* Solves a problem, unless one side has nobody, and writes what was found: the status. What is STRANGE isn't met by a
+ * caller who keeps the duties; nothing is written then either. */
+static int32_t solve(job *w, uint32_t *choice, uint32_t *hall, sigdorf_found_f64 *found) {
+    workshop shop = {0};
+    unsigned kept = begin_floats();
+    int status = !w->q.count ? SIGDORF_OPTIMAL : begin_job(w, &shop, &OWN, 0) ? STRANGE : run(w);
+    write_found(w, status, choice, hall, found);
+    end_job(w);
+    close_shop(&shop);
+    end_floats(kept);
+    return status == STRANGE ? SIGDORF_MEMORY : status;
+}
+
+static job job_of(const double *costs, size_t rows, size_t columns, size_t stride, uint64_t bids) {
+    return (job){.q = {.costs = costs,
+                       .count = rows * columns,
+                       .rows = rows,
+                       .columns = columns,
+                       .stride = stride,
+                       .most_entries = SIGDORF_MOST_ARCS - (rows < columns ? rows : columns),
+                       .bids = bids,
+                       .type = 'd',
+                       .takes_gap = 1}};
+}
+
+int32_t sigdorf_solve_dense_f64(uint32_t persons, uint32_t objects, const double *costs, size_t costs_len,
+                                size_t stride, uint64_t bids, uint32_t *choice, size_t choice_len,
+                                uint32_t *hall_objects, size_t hall_objects_len, sigdorf_found_f64 *found) {
+    size_t columns = objects ? objects : persons;
+    if (choice_len != persons || hall_objects_len != persons || !lies_within(persons, columns, costs_len, stride))
+        return SIGDORF_SIZES;
+    if (persons < 1 || persons > SIGDORF_MOST_PERSONS) return refused(found, SIGDORF_PERSONS, 0);
+    if (columns < persons || columns > MOST_SIDE) return refused(found, SIGDORF_OBJECTS, 0);
+    job w = job_of(costs, persons, columns, stride, bids);
+    return solve(&w, choice, hall_objects, found);
+}
+
+int32_t sigdorf_match(uint32_t persons, uint32_t objects, const double *costs, size_t costs_len, size_t stride,
+                      double gate, uint64_t bids, uint32_t *choice, size_t choice_len, sigdorf_found_f64 *found) {
+    if (choice_len != persons || !lies_within(persons, objects, costs_len, stride)) return SIGDORF_SIZES;
+    if (persons > MOST_SIDE) return refused(found, SIGDORF_PERSONS, 0);
+    if (objects > MOST_SIDE - persons) return refused(found, SIGDORF_OBJECTS, 0);
+    if (!(gate - gate == 0)) return refused(found, SIGDORF_GATE, 0);
+    job w = job_of(costs, persons, objects, stride, bids);
+    w.q.limit = gate, w.q.has_limit = 1;
+    return solve(&w, choice, NULL, found);
+}

@@ -1,0 +1,198 @@
+/* Runs a problem: its memory, the library's call in whole units, and what is made of its answer. */
+#include <stdlib.h>
+#include <string.h>
+#ifdef __SSE2__
+#include <xmmintrin.h>
+#endif
+
+#include "levels.h"
+
+/* Tables with fewer entries, gaps among them, are solved as tables. */
+#define FEWEST_LISTED 2500
+
+/* ---- Working memory */
+
+void *block_of(room *r, size_t bytes) {
+    if (r->block && r->bytes >= bytes) return r->block;
+    free(r->block);
+    r->block = malloc(bytes);
+    r->bytes = r->block ? bytes : 0;
+    return r->block;
+}
+
+void close_shop(workshop *shop) {
+    free(shop->costs.block);
+    free(shop->level.block);
+    free(shop->round.block);
+    free(shop->object);
+    free(shop->entry);
+    free(shop->slack);
+    free(shop->tail);
+}
+
+/* Takes the memory of an answer. */
+static int make_room(job *w) {
+    size_t persons = w->persons, objects = w->objects;
+    if (!w->block) w->block = malloc((objects + 4 * persons + w->q.rows + w->q.columns) * 8);
+    if (!w->block) return SIGDORF_MEMORY;
+    w->prices = w->block;
+    w->rows = w->prices + objects;
+    w->columns = w->rows + persons;
+    w->places = w->columns + persons;
+    w->free_rows = w->places + persons;
+    w->free_columns = w->free_rows + w->q.rows;
+    w->choice = (uint32_t *)(w->free_columns + w->q.columns);
+    w->hall = w->choice + persons;
+    memset(w->prices, 0, objects * 8);
+    return 0;
+}
+
+void end_job(job *w) {
+    free(w->block);
+    free(w->changes);
+    free(w->units);
+    free(w->combined);
+}
+
+/* ---- Whole units */
+
+/* Whether entries are solved one by one, and not as a table: of a table with many gaps that took a half to a twentieth
+ * of the time (100 to 1,000 rows with 3 to 80 % of all entries, test_road.py); with fewer gaps or rows a table is as
+ * fast or faster. A table with ways out has no gaps for the library, and is as fast as a list from 12 to 30 % of all
+ * entries within the limit (50 to 500 rows: random costs, and distances in a plane). */
+static int are_listed(const job *w) {
+    if (w->q.row || (w->q.start && w->outlets) || w->q.count > SIGDORF_MOST_ARCS) return 1;
+    return w->q.count >= FEWEST_LISTED && w->entries - w->outlets <= (w->outlets ? w->q.count / 5 : w->q.count / 4 * 3);
+}
+
+/* Whole costs. */
+static int make_costs(job *w) {
+    int status = look_over(w);
+    if (status) return status;
+    w->arcs = NULL;
+    if (are_listed(w)) {
+        status = list_entries(w);
+        return status ? status : write_costs(w);
+    }
+    w->costs = block_of(&w->shop->costs, (w->q.count + w->outlets) * 8);
+    return w->costs ? write_costs(w) : SIGDORF_MEMORY;
+}
+
+/* Prices to start from in the unit of the costs: the caller's are in that of whole costs. */
+static void write_start(const job *w, int64_t *to) {
+    int finer = w->unit > 0 ? w->unit : 0, coarser = w->unit < 0 ? -w->unit : 0;
+    for (size_t j = 0; j < w->q.starts; j++) {
+        int64_t price = w->q.start[j];
+        if (finer > 60 ? price > 0 : price > SIGDORF_HIGHEST_START >> finer)
+            to[j] = SIGDORF_HIGHEST_START;
+        else
+            to[j] = finer > 60 || coarser > 60 ? 0 : price << finer >> coarser;
+    }
+}
+
+/* The library's status. A table with ways out has gaps that cost as much in their place. */
+static int32_t ask_library(job *w, sigdorf_found *found) {
+    size_t persons = w->persons, objects = w->arcs ? w->objects : w->width;
+    int64_t none = 0, *start = w->q.starts ? malloc(objects * 8) : &none;
+    if (!start) return SIGDORF_MEMORY;
+    write_start(w, start);
+    memset(w->choice, 0, persons * 8);
+    uint64_t bids = bids_for(w->q.bids, persons);
+    int32_t status =
+        w->arcs ? w->calls->solve((uint32_t)persons, (uint32_t)objects, w->arcs, w->entries, start, w->q.starts, bids,
+                                  w->choice, persons, w->prices, objects, w->hall, persons, found)
+                : w->calls->solve_dense((uint32_t)persons, (uint32_t)objects, w->costs, w->q.count, objects, NO_ENTRY,
+                                        start, w->q.starts, bids, w->choice, persons, w->prices, objects, w->hall,
+                                        persons, found);
+    if (start != &none) free(start);
+    return status;
+}
+
+/* Whether choices are entries, and take no object twice: what is proved of the library is no reason to trust whatever
+ * was bound in its place. Those of a table become numbers of entries. */
+static int are_entries(job *w) {
+    uint8_t *taken = block_of(&w->shop->level, w->objects);
+    if (!taken) return SIGDORF_MEMORY;
+    memset(taken, 0, w->objects);
+    for (size_t i = 0; i < w->persons; i++) {
+        size_t choice = w->choice[i];
+        if (w->arcs ? choice < w->first[i] || choice >= w->first[i + 1] : choice >= w->width) return STRANGE;
+        if (!w->arcs) choice += i * w->width;
+        w->choice[i] = (uint32_t)choice;
+        if (taken[object_of(w, i, choice)]++) return STRANGE;
+    }
+    return 0;
+}
+
+/* Takes what a call of the library's has found where it has no least assignment: a status. */
+static int take_found(job *w, int32_t status, const sigdorf_found *found) {
+    w->kind = found->kind;
+    w->gap = found->cost - found->lower + (w->has_tails ? (int64_t)w->persons : 0);
+    w->gap_unit = w->unit;
+    w->hall_persons = found->persons, w->hall_objects = found->objects;
+    if (status == SIGDORF_BRACKET) return w->q.takes_gap && w->gap >= 0 ? status : STRANGE;
+    return status == SIGDORF_INFEASIBLE || status == SIGDORF_MEMORY ? status : STRANGE;
+}
+
+/* ---- The whole way */
+
+/* Solves it with a gate, or without one. */
+static int run_by(job *w, int takes_gate) {
+    w->takes_gate = takes_gate;
+    w->levels = 0, w->are_whole = 0, w->gap = 0;
+    int status = make_room(w);
+    if (!status) status = make_costs(w);
+    if (status) return status;
+    sigdorf_found found = {0};
+    int32_t said = ask_library(w, &found);
+    if (said != SIGDORF_OPTIMAL && said != SIGDORF_BRACKET) return take_found(w, said, &found);
+    status = are_entries(w);
+    if (status) return status;
+    if (said == SIGDORF_BRACKET)
+        status = take_found(w, said, &found);
+    else
+        status = refine(w);
+    if (status == SIGDORF_BRACKET && !w->q.takes_gap) return STRANGE;
+    if (status && (status != SIGDORF_BRACKET || w->gate_cost)) return status;
+    int fails = w->q.wants_prices ? sum_up(w) : 0;
+    if (!fails && w->q.wants_prices) fails = combine(w);
+    return fails ? fails : status;
+}
+
+int begin_job(job *w, workshop *shop, const library *calls, int maximize) {
+    const question *q = &w->q;
+    w->shop = shop;
+    w->calls = calls;
+    w->sign = maximize ? -1 : 1;
+    w->by_columns = q->rows > q->columns;
+    w->persons = w->by_columns ? q->columns : q->rows;
+    w->width = w->by_columns ? q->rows : q->columns;
+    w->outlets = q->has_limit ? w->persons : 0;
+    w->objects = w->width + w->outlets;
+    return w->persons < 1 || w->persons > SIGDORF_MOST_PERSONS || w->objects > SIGDORF_MOST_OBJECTS ||
+           (q->start && q->starts != w->objects);
+}
+
+int run(job *w) {
+    int status = run_by(w, 1);
+    /* What a search with a gate leaves is no bound of the costs as they are. */
+    return status == SIGDORF_BRACKET && w->gate_cost ? run_by(w, 0) : status;
+}
+
+unsigned begin_floats(void) {
+#ifdef __SSE2__
+    unsigned kept = _mm_getcsr();
+    _mm_setcsr(0x1f80);
+    return kept;
+#else
+    return 0;
+#endif
+}
+
+void end_floats(unsigned kept) {
+#ifdef __SSE2__
+    _mm_setcsr(kept);
+#else
+    (void)kept;
+#endif
+}

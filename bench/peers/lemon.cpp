@@ -6,7 +6,6 @@
 #include <cstdio>
 #include <cstdlib>
 #include <cstring>
-#include <sys/resource.h>
 #include <vector>
 
 #include <lemon/cost_scaling.h>
@@ -44,6 +43,23 @@ static Problem problem_of(const char *name) {
     return problem;
 }
 
+// The greatest memory that the process has had so far. Not that of getrusage: a process begins there with the peak of the
+// one that started it.
+static long peak() {
+    FILE *status = std::fopen("/proc/self/status", "r");
+    char line[256];
+    long kilobytes = -1;
+    while (status != nullptr && std::fgets(line, sizeof line, status) != nullptr) {
+        if (std::sscanf(line, "VmHWM: %ld kB", &kilobytes) == 1) {
+            break;
+        }
+    }
+    if (status != nullptr) {
+        std::fclose(status);
+    }
+    return 1024 * kilobytes;
+}
+
 template <typename Method> static int solve(const Problem &problem, long long &cost) {
     StaticDigraph graph;
     graph.build(2 * problem.persons, problem.ends.begin(), problem.ends.end());
@@ -64,9 +80,7 @@ template <typename Method> static int solve(const Problem &problem, long long &c
         return 3;
     }
     cost = method.totalCost();
-    rusage usage;
-    getrusage(RUSAGE_SELF, &usage);
-    std::printf("%.6f %ld %lld\n", seconds.count(), usage.ru_maxrss * 1024, cost);
+    std::printf("%.6f %ld %lld\n", seconds.count(), peak(), cost);
     return 0;
 }
 

@@ -5,7 +5,8 @@
  * there. Costs count exactly: docs/EXACT.md says how.
  *
  * A call of few entries holds the interpreter's lock; others give it up. Costs are rounded into a copy, and what that leaves of the few that matter is read again
- * where they lie: so that nothing is answered of costs that somebody has written meanwhile.
+ * where they lie: so that nothing is answered of costs that somebody has written meanwhile. A table that is read-only needs no copy where its numbers are what
+ * the library takes.
  */
 #include "_fast.h"
 
@@ -83,13 +84,21 @@ static Py_buffer *numbers_of(question *q, PyObject *given, const char *types, in
     return view->ndim == dimensions && !(view->format && view->format[1]) && strchr(types, type) ? view : NULL;
 }
 
+/* Whether an array is read-only and owns its memory. A read-only view may be of what others write, as pandas gives one. */
+static int is_kept(PyObject *array, const Py_buffer *view) {
+    if (!view->readonly) return 0;
+    PyObject *base = PyObject_GetAttrString(array, "base");
+    Py_XDECREF(base);
+    return base == Py_None;
+}
+
 /* A table, or (rows, columns, costs, number of rows, number of columns): 1 where it isn't plain. */
 static int take_problem(question *q, PyObject *given) {
     Py_buffer *view;
     if (!PyTuple_Check(given)) {
         if ((PyObject *)Py_TYPE(given) != array_type || !(view = numbers_of(q, given, "dqQ", 2))) return 1;
         q->rows = (size_t)view->shape[0], q->columns = (size_t)view->shape[1], q->count = q->rows * q->columns;
-        q->costs = view->buf;
+        q->costs = view->buf, q->is_kept = is_kept(given, view);
         return 0;
     }
     if (PyTuple_Size(given) != 5) return 1;
@@ -147,11 +156,16 @@ static int make_room(job *w) {
  * 3 to 80 % of all entries, test_road.py); with fewer gaps or rows a table is as fast or faster. */
 static int are_listed(const job *w) { return w->q.row || w->q.has_limit || (w->q.count >= FEWEST_LISTED && w->entries <= w->q.count / 4 * 3); }
 
+/* Whether the library can take a table where it lies: whole numbers to 10^9 row by row, of which the least are wanted. A type without a sign has the same bits. */
+static int is_taken_as_it_lies(const job *w) {
+    return w->q.is_kept && w->is_small && w->q.type != 'd' && w->sign > 0 && !w->by_columns && (uintptr_t)w->q.costs % sizeof(int64_t) == 0;
+}
+
 /* Whole costs. */
 static int make_costs(job *w) {
     if (look_over(w) || w->entries > SIGDORF_MOST_ARCS) return 1;
     if (are_listed(w)) return list_entries(w) || write_costs(w);
-    w->costs = block_of(&w->shop->costs, w->q.count * 8);
+    w->costs = is_taken_as_it_lies(w) ? (int64_t *)w->q.costs : block_of(&w->shop->costs, w->q.count * 8);
     return !w->costs || write_costs(w);
 }
 

@@ -37,6 +37,7 @@ typedef struct {
     double limit; /* which pairs may cost at most, with a way out at that cost for each person; of whole numbers it is `whole_limit` */
     char type;    /* d, q or Q, as the struct module has it */
     int has_limit, wants_prices;
+    int is_kept; /* a table that owns its memory and is read-only: nobody writes it while the call runs */
 } question;
 
 /* A block of memory that is used again. */
@@ -63,7 +64,7 @@ typedef struct {
     size_t persons, objects, outlets; /* of the objects so many are ways out, the last ones */
     size_t entries;                   /* how many costs are no gaps, ways out included */
     int sign, by_columns;
-    int64_t *costs; /* of a table, or else NULL and: */
+    int64_t *costs; /* of a table, of which a kept one may be the caller's own; or else NULL and: */
     sigdorf_arc *arcs;
     uint32_t *first, *place; /* of each person the first arc, and one more; of each arc the caller's entry */
     void *block;             /* what the answer is made of */

@@ -259,9 +259,9 @@ int write_costs(job *w) {
     /* Small ones too, in whole units from 0. */
     if (is_plain && is_float && !w->has_gaps && !w->gate_cost)
         tails = round_all(w->q.costs, w->q.count, w->sign, rounder, w->least, w->costs);
-    else if (is_plain && !is_float && w->is_small)
-        turn_all(w->q.costs, w->q.count, w->sign, w->costs);
-    else
+    else if (is_plain && !is_float && w->is_small) {
+        if (w->costs != w->q.costs) turn_all(w->q.costs, w->q.count, w->sign, w->costs);
+    } else
         tails = write_each(w, rounder);
     w->has_tails = tails != 0 && !w->is_small;
     if (!w->is_small && !w->has_tails && !w->gate_cost) drop_twos(w);

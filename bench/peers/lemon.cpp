@@ -1,12 +1,11 @@
 // The least cost of a problem by LEMON, as a flow of one unit from each person to each object: `lemon simplex|scaling FILE`.
 //
-// Prints the seconds of the call alone, without reading and making the graph, the peak memory in bytes, and the cost. Built by
-// `g++ -O3 -DNDEBUG -o lemon lemon.cpp`. LEMON 1.3.1: https://lemon.cs.elte.hu
-#include <chrono>
+// Prints the seconds of a processor of the call alone, without reading and making the graph, the peak memory in bytes, and
+// the cost. Built by `g++ -O3 -DNDEBUG -o lemon lemon.cpp`. LEMON 1.3.1: https://lemon.cs.elte.hu
 #include <cstdio>
 #include <cstdlib>
 #include <cstring>
-#include <sys/resource.h>
+#include <ctime>
 #include <vector>
 
 #include <lemon/cost_scaling.h>
@@ -44,6 +43,23 @@ static Problem problem_of(const char *name) {
     return problem;
 }
 
+// The greatest memory that the process has had so far. Not that of getrusage: a process begins there with the peak of the
+// one that started it.
+static long peak() {
+    FILE *status = std::fopen("/proc/self/status", "r");
+    char line[256];
+    long kilobytes = -1;
+    while (status != nullptr && std::fgets(line, sizeof line, status) != nullptr) {
+        if (std::sscanf(line, "VmHWM: %ld kB", &kilobytes) == 1) {
+            break;
+        }
+    }
+    if (status != nullptr) {
+        std::fclose(status);
+    }
+    return 1024 * kilobytes;
+}
+
 template <typename Method> static int solve(const Problem &problem, long long &cost) {
     StaticDigraph graph;
     graph.build(2 * problem.persons, problem.ends.begin(), problem.ends.end());
@@ -56,17 +72,15 @@ template <typename Method> static int solve(const Problem &problem, long long &c
     for (int node = 0; node < 2 * problem.persons; ++node) {
         supply[graph.node(node)] = node < problem.persons ? 1 : -1;
     }
-    const auto start = std::chrono::steady_clock::now();
+    const std::clock_t start = std::clock();
     Method method(graph);
     const auto answer = method.upperMap(room).costMap(costs).supplyMap(supply).run();
-    const std::chrono::duration<double> seconds = std::chrono::steady_clock::now() - start;
+    const double seconds = static_cast<double>(std::clock() - start) / CLOCKS_PER_SEC;
     if (answer != Method::OPTIMAL) {
         return 3;
     }
     cost = method.totalCost();
-    rusage usage;
-    getrusage(RUSAGE_SELF, &usage);
-    std::printf("%.6f %ld %lld\n", seconds.count(), usage.ru_maxrss * 1024, cost);
+    std::printf("%.6f %ld %lld\n", seconds, peak(), cost);
     return 0;
 }
 

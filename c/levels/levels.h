@@ -40,6 +40,7 @@ typedef struct {
     double limit; /* what pairs may cost at most, and a way out costs each person; of whole numbers `whole_limit` */
     char type;    /* d, q or Q, as Python's struct module has it */
     int has_limit, wants_prices, takes_gap; /* whether an answer may have a gap */
+    int is_kept; /* a table that nobody writes while the call runs */
 } question;
 
 /* A block of memory that is used again. */

@@ -362,10 +362,11 @@ int write_costs(job *w) {
     /* Small ones too, in whole units from 0. What ran under as it was read would be no tail there. */
     if (is_plain && is_float && shift >= 0 && (!w->has_gaps || w->outlets))
         tails = write_runs(w, rounder);
-    else if (is_plain && !is_float && w->is_small)
-        turn_all(w->q.costs, w->q.count, w->sign, w->outlets ? w->sign * (int64_t)w->q.whole_limit : INT64_MAX,
-                 w->costs);
-    else
+    else if (is_plain && !is_float && w->is_small) {
+        if (w->costs != w->q.costs)
+            turn_all(w->q.costs, w->q.count, w->sign, w->outlets ? w->sign * (int64_t)w->q.whole_limit : INT64_MAX,
+                     w->costs);
+    } else
         tails = write_each(w, rounder);
     for (size_t i = 0; !w->arcs && i < w->outlets; i++)
         w->costs[w->q.count + i] = whole_of(w, NO_PLACE, rounder, &tails);

@@ -65,6 +65,13 @@ static int are_listed(const job *w) {
     return w->q.count >= FEWEST_LISTED && w->entries - w->outlets <= (w->outlets ? w->q.count / 5 : w->q.count / 4 * 3);
 }
 
+/* Whether the library can take a table where it lies: whole numbers to 10^9 row by row, of which the least are wanted. A
+ * type without a sign has the same bits. */
+static int is_taken_as_it_lies(const job *w) {
+    return w->q.is_kept && w->is_small && w->q.type != 'd' && w->sign > 0 && !w->by_columns && !w->outlets
+           && (uintptr_t)w->q.costs % sizeof(int64_t) == 0;
+}
+
 /* Whole costs. */
 static int make_costs(job *w) {
     int status = look_over(w);
@@ -74,7 +81,8 @@ static int make_costs(job *w) {
         status = list_entries(w);
         return status ? status : write_costs(w);
     }
-    w->costs = block_of(&w->shop->costs, (w->q.count + w->outlets) * 8);
+    w->costs = is_taken_as_it_lies(w) ? (int64_t *)w->q.costs
+                                      : block_of(&w->shop->costs, (w->q.count + w->outlets) * 8);
     return w->costs ? write_costs(w) : SIGDORF_MEMORY;
 }
 

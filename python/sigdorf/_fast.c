@@ -8,7 +8,7 @@
  *
  * A call of few entries holds the interpreter's lock; others give it up. Costs are rounded into a copy, and what that
  * leaves of the few that matter is read again where they lie: so that nothing is answered of costs that somebody has
- * written meanwhile.
+ * written meanwhile. A table that is read-only needs no copy where its numbers are what the library takes.
  */
 /* The first that has buffers in it; what is built by it runs by CPython 3.10 too. */
 #define Py_LIMITED_API 0x030B0000
@@ -80,6 +80,14 @@ static Py_buffer *numbers_of(task *t, PyObject *given, const char *types, int di
     return view->ndim == dimensions && !(view->format && view->format[1]) && strchr(types, type) ? view : NULL;
 }
 
+/* Whether an array is read-only and owns its memory. A read-only view may be of what others write, as pandas gives one. */
+static int is_kept(PyObject *array, const Py_buffer *view) {
+    if (!view->readonly) return 0;
+    PyObject *base = PyObject_GetAttrString(array, "base");
+    Py_XDECREF(base);
+    return base == Py_None;
+}
+
 /* A table, or (rows, columns, costs, number of rows, number of columns): 1 where it isn't plain. */
 static int take_problem(task *t, PyObject *given) {
     question *q = &t->w.q;
@@ -87,7 +95,7 @@ static int take_problem(task *t, PyObject *given) {
     if (!PyTuple_Check(given)) {
         if ((PyObject *)Py_TYPE(given) != array_type || !(view = numbers_of(t, given, "dqQ", 2))) return 1;
         q->rows = (size_t)view->shape[0], q->columns = (size_t)view->shape[1], q->count = q->rows * q->columns;
-        q->costs = view->buf, q->stride = q->columns;
+        q->costs = view->buf, q->stride = q->columns, q->is_kept = is_kept(given, view);
         return 0;
     }
     if (PyTuple_Size(given) != 5) return 1;

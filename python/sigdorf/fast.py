@@ -46,7 +46,10 @@ def is_there():
 
 
 def plain(numbers):
-    """An array of numbers as one of native doubles or whole numbers of 64 bits, row by row: itself where it is that, or no such array can be made of it."""
+    """An array of numbers as one of native doubles or whole numbers of 64 bits, row by row: itself where it is that, or no such array can be made of it.
+
+    The extension reads a table where it lies if it is read-only and owns its memory, and a copy of others.
+    """
     kind = numbers.dtype
     if (kind is FLOAT or kind is WHOLE) and numbers.flags.c_contiguous:
         return numbers
@@ -55,10 +58,14 @@ def plain(numbers):
     if kind.itemsize > 8:
         return _narrow(numbers)
     try:
-        return numbers.astype(FLOAT if kind.kind == "f" else NATURAL if kind.kind == "u" and kind.itemsize == 8 else WHOLE, order="C", copy=False)
+        made = numbers.astype(FLOAT if kind.kind == "f" else NATURAL if kind.kind == "u" and kind.itemsize == 8 else WHOLE, order="C", copy=False)
     except (FloatingPointError, RuntimeWarning):
         # A caller has numpy raise where a number that isn't one is met, which is said later.
         return numbers
+    if made is not numbers and made.base is None:
+        # Nobody else has it, so that the extension needs no copy of it.
+        made.flags.writeable = False
+    return made
 
 
 def _narrow(numbers):

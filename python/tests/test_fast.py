@@ -180,6 +180,33 @@ class Fast(Limited):
             ends.set()
             writer.join()
 
+    def test_read_only_tables(self):
+        """They get the answers of others, views of them too, and stay as they are."""
+        random = numpy.random.default_rng(10)
+        for number in range(200):
+            shape, kind = tuple(random.integers(1, 70, 2)), random.choice(["i8", "u8", "i4", "f8"])
+            table = random.integers(0, random.choice([3, 10**9 + 1, 10**12]) if kind != "i4" else 9, shape).astype(kind)
+            kept, maximize = table.copy(), number % 2 == 1
+            kept.flags.writeable = False
+            with self.subTest(number=number):
+                wanted = sigdorf.solve(table, maximize=maximize)
+                for given in (kept, kept[:], kept.T.copy().T):
+                    found = sigdorf.solve(given, maximize=maximize)
+                    self.assertEqual((found.columns.tolist(), found.cost), (wanted.columns.tolist(), wanted.cost))
+                    self.assertEqual(*(list(map(list, map(numpy.ndarray.tolist, sigdorf.linear_sum_assignment(each)))) for each in (given, table)))
+                    sigdorf.check(found, given, maximize=maximize)
+            self.assertTrue((kept == table).all())
+
+    def test_memory_of_tables(self):
+        """One that is read-only takes next to nothing beside it, and others a copy; one of 32 bits its numbers in 64 bits."""
+        for name, most in [("whole numbers, read-only", 0.25), ("whole numbers, linear", 1.25), ("whole numbers of 32 bits", 2.25)]:
+            signal.alarm(60)
+            program = pathlib.Path(__file__).with_name("memory")
+            done = subprocess.run([sys.executable, "-B", program, "--rows", "1500", "--only", name], env=self.with_library(), capture_output=True, text=True)
+            self.assertEqual(done.returncode, 0, done.stderr)
+            share = float(done.stdout.splitlines()[-1].split("|")[4])
+            self.assertLess(share, most, name)
+
     def test_entries_among_gaps(self):
         matrix = numpy.array([[numpy.inf, 1.5, 2], [1, numpy.inf, 7], [numpy.inf, 3, 2.5], [9, 9, numpy.inf]])
         for given in (matrix, matrix.T.copy(), matrix * 2, matrix.T * 2):

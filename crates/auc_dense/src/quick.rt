@@ -17,9 +17,10 @@ use std::alloc::{AllocError, Global};
 /// milliseconds.
 const LEAST_SCAN_LIMIT: u64 = 16_777_216;
 
-/// How many times it may look at each entry in the mean, where that is more. Where it takes more, bids with lists are
-/// faster.
-const SCANS_PER_ENTRY: u64 = 32;
+/// It may take one part in this many of what it takes at worst, objects times all entries, where that is more. Costs by
+/// chance and distances take less from 1,000 objects on. Where it takes more, bids with lists are faster, but the arcs
+/// that they want take four times the table's memory.
+const PARTS_OF_WORST: u64 = 32;
 
 /// How many entries the search may look at. To look over a row counts as a bid; with more objects than persons nothing
 /// else ends it, since bids are no faster there.
@@ -31,7 +32,7 @@ fn scans_of(persons: u32, objects: u32, bids: u64) -> u64 {
     }
     let all = row.saturating_mul(u64::from(persons));
     LEAST_SCAN_LIMIT
-        .max(all.saturating_mul(SCANS_PER_ENTRY))
+        .max(all.saturating_mul(row / PARTS_OF_WORST))
         .min(by_bids)
 }
 

@@ -1,19 +1,21 @@
-//! A table in which gaps have a very high cost.
-
-use crate::table::{Table, row_of};
-use std::alloc::{AllocError, Global};
+//! Gaps of a table, which are read as entries of a very high cost.
 
 /// The cost of a gap: above the greatest difference in cost of two assignments without gaps.
 const GAP_COST: i64 = 70_368_744_177_664;
 
-/// The rows of a table one after another, with the cost of a gap for each entry that equals `gap`.
-pub(crate) fn fill_gaps(alloc: Global, table: &Table, gap: i64) -> Result<Vec<i64>, AllocError> {
-    let many = (table.persons as usize).saturating_mul(table.objects as usize);
-    let mut costs = Vec::with_capacity(alloc, many.min(table.costs.len()))?;
-    for person in 0..table.persons {
-        for cost in row_of(table, person) {
-            costs.push(if *cost == gap { GAP_COST } else { *cost })?;
+/// What a search takes for a gap: an entry that equals this number, or nothing. Each of both has passes of its own,
+/// since to look for gaps takes time.
+#[derive(Clone, Copy)]
+pub(crate) struct Gap<const IS_ANY: bool>(pub(crate) i64);
+
+impl<const IS_ANY: bool> Gap<IS_ANY> {
+    /// The cost of an entry.
+    #[inline(always)]
+    pub(crate) fn cost_of(self, entry: i64) -> i64 {
+        if IS_ANY && entry == self.0 {
+            GAP_COST
+        } else {
+            entry
         }
     }
-    Ok(costs)
 }

@@ -1,5 +1,6 @@
 //! Keys of the objects, holders, the object of each person, and bids by which persons take objects from one another.
 
+use crate::gaps::Gap;
 use crate::passes::{least_value, object_of_value};
 use crate::table::{Table, row_of};
 use std::alloc::{AllocError, Global};
@@ -19,11 +20,11 @@ struct Best {
 }
 
 /// The best entry of a row; none of an empty one.
-fn best_of(row: &[i64], keys: &[i64]) -> Option<Best> {
-    let value = least_value(row, keys);
-    let object = object_of_value(row, keys, value)?;
-    let before = least_value(&row[..object], &keys[..object]);
-    let after = least_value(&row[object + 1..], &keys[object + 1..]);
+fn best_of<const G: bool>(gap: Gap<G>, row: &[i64], keys: &[i64]) -> Option<Best> {
+    let value = least_value(gap, row, keys);
+    let object = object_of_value(gap, row, keys, value)?;
+    let before = least_value(gap, &row[..object], &keys[..object]);
+    let after = least_value(gap, &row[object + 1..], &keys[object + 1..]);
     let second = before.min(after);
     let rise = if second == i64::MAX {
         0
@@ -75,10 +76,10 @@ impl Market {
 
     /// A person takes the best object, and raises its price by the margin to the second best; returns the displaced
     /// person. Where another object is as good as the best one and the best one has a holder, the person takes nothing.
-    fn bid(&mut self, table: &Table, person: u32) -> Option<u32> {
+    fn bid<const G: bool>(&mut self, table: &Table, gap: Gap<G>, person: u32) -> Option<u32> {
         let row = row_of(table, person);
         self.scanned = self.scanned.saturating_add(row.len() as u64);
-        let Best { object, rise } = best_of(row, self.keys.as_slice())?;
+        let Best { object, rise } = best_of(gap, row, self.keys.as_slice())?;
         if rise == 0 && self.holder_of(object).is_some() {
             return None;
         }
@@ -96,10 +97,10 @@ impl Market {
     }
 
     /// A person bids, then the displaced person, and so on.
-    pub(crate) fn bid_in_chain(&mut self, table: &Table, first: u32) {
+    pub(crate) fn bid_in_chain<const G: bool>(&mut self, table: &Table, gap: Gap<G>, first: u32) {
         let mut person = first;
         for _ in 0..CHAIN_BIDS {
-            match self.bid(table, person) {
+            match self.bid(table, gap, person) {
                 Some(earlier) => person = earlier,
                 None => return,
             }

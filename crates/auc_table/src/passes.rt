@@ -5,6 +5,8 @@
 //! free one comes first by twice the cost plus the key.
 ghost use Rattle.std.specs.Prelude.{◌<◌, length, IfSome};
 
+use crate::gaps::Gap;
+
 /// The distance of an object that isn't reached.
 pub(crate) const UNREACHED: i64 = 1_152_921_504_606_846_976;
 
@@ -16,24 +18,29 @@ fn value_of(cost: i64, key: i64) -> i64 {
 
 /// The least value of a row's entries.
 #[inline(never)]
-pub(crate) fn least_value(row: &[i64], keys: &[i64]) -> i64 {
+pub(crate) fn least_value<const G: bool>(gap: Gap<G>, row: &[i64], keys: &[i64]) -> i64 {
     let many = row.len().min(keys.len());
     let mut least = i64::MAX;
     for object in 0..many {
-        let value = value_of(row[object], keys[object]);
+        let value = value_of(gap.cost_of(row[object]), keys[object]);
         least = if value < least { value } else { least };
     }
     least
 }
 
 /// The first object whose entry has this value.
-pub(crate) fn object_of_value(row: &[i64], keys: &[i64], value: i64) -> Option<usize>
+pub(crate) fn object_of_value<const G: bool>(
+    gap: Gap<G>,
+    row: &[i64],
+    keys: &[i64],
+    value: i64,
+) -> Option<usize>
     ensures row { IfSome result (λ object. object < length row.now) }
     ensures keys { IfSome result (λ object. object < length keys.now) }
 {
     let many = row.len().min(keys.len());
     for object in 0..many {
-        if value_of(row[object], keys[object]) == value {
+        if value_of(gap.cost_of(row[object]), keys[object]) == value {
             return Some(object);
         }
     }
@@ -44,7 +51,8 @@ pub(crate) fn object_of_value(row: &[i64], keys: &[i64], value: i64) -> Option<u
 /// person. Returns the least distance of an object that isn't settled. The key of a settled object is so high that its
 /// distance can't be improved.
 #[inline(never)]
-pub(crate) fn come_nearer(
+pub(crate) fn come_nearer<const G: bool>(
+    gap: Gap<G>,
     row: &[i64],
     keys: &[i64],
     more: i64,
@@ -59,7 +67,7 @@ pub(crate) fn come_nearer(
         .min(reached_by.len());
     let mut nearest = UNREACHED;
     for object in 0..many {
-        let distance = value_of(row[object], keys[object]).wrapping_add(more);
+        let distance = value_of(gap.cost_of(row[object]), keys[object]).wrapping_add(more);
         let old = distances[object];
         // Read in any case, so that there is no branch.
         let before = reached_by[object];

@@ -4,6 +4,7 @@
 //! This is Dijkstra's search over reduced costs. It has no heap, since each row that is scanned reaches every object
 //! anyway.
 
+use crate::gaps::Gap;
 use crate::market::{Market, NOBODY};
 use crate::passes::{UNREACHED, come_nearer, object_at};
 use crate::table::{Table, row_of};
@@ -30,16 +31,18 @@ struct Reacher {
 /// The state of a search: the distance of each object, and the person through whom it was reached; and the settled
 /// objects in order.
 #[derive(Drop)]
-pub(crate) struct Search {
+pub(crate) struct Search<const G: bool> {
+    gap: Gap<G>,
     distances: Vec<i64>,
     reached_by: Vec<u64>,
     settled: Vec<Settled>,
 }
 
-impl Search {
+impl<const G: bool> Search<G> {
     /// No object is reached.
-    pub(crate) fn new(alloc: Global, objects: u32) -> Result<Search, AllocError> {
+    pub(crate) fn new(alloc: Global, gap: Gap<G>, objects: u32) -> Result<Search<G>, AllocError> {
         Ok(Search {
+            gap,
             distances: vec![in alloc; UNREACHED; objects as usize]?,
             reached_by: vec![in alloc; 0; objects as usize]?,
             settled: Vec::new(alloc),
@@ -51,6 +54,7 @@ impl Search {
         let row = row_of(table, by.person);
         market.scanned = market.scanned.saturating_add(row.len() as u64);
         let distance = come_nearer(
+            self.gap,
             row,
             market.keys.as_slice(),
             by.more,
@@ -79,7 +83,9 @@ impl Search {
         let row = row_of(table, holder);
         if object < self.distances.len() && object < market.keys.len() && object < row.len() {
             self.distances[object] = UNREACHED;
-            own = row[object]
+            own = self
+                .gap
+                .cost_of(row[object])
                 .wrapping_mul(2)
                 .wrapping_add(market.keys[object]);
             market.keys[object] = market.keys[object].wrapping_add(SETTLED_PENALTY);

@@ -1,6 +1,6 @@
 //! The proposal of the search.
 
-use crate::gaps::fill_gaps;
+use crate::gaps::Gap;
 use crate::market::{Market, NOBODY};
 use crate::paths::Search;
 use crate::table::Table;
@@ -20,17 +20,18 @@ pub struct Proposal {
 /// Each person bids once in order, and the persons displaced bid a few times. A person who then has nothing takes a
 /// path. Returns whether each person has an object: not where there are too few objects, or where the limit on scanned
 /// entries is reached.
-fn assign_all(
+fn assign_all<const G: bool>(
     table: &Table,
+    gap: Gap<G>,
     market: &mut Market,
-    search: &mut Search,
+    search: &mut Search<G>,
     scans: u64,
 ) -> Result<bool, AllocError> {
     for person in 0..table.persons {
         if scans < market.scanned {
             return Ok(false);
         }
-        market.bid_in_chain(table, person);
+        market.bid_in_chain(table, gap, person);
     }
     for person in 0..table.persons {
         if scans < market.scanned {
@@ -47,11 +48,16 @@ fn assign_all(
     Ok(true)
 }
 
-/// Searches a table without gaps.
-fn propose_full(alloc: Global, table: &Table, scans: u64) -> Result<Option<Proposal>, AllocError> {
+/// Searches a table with such gaps.
+fn propose_by<const G: bool>(
+    alloc: Global,
+    table: &Table,
+    gap: Gap<G>,
+    scans: u64,
+) -> Result<Option<Proposal>, AllocError> {
     let mut market = Market::new(alloc, table.persons, table.objects)?;
-    let mut search = Search::new(alloc, table.objects)?;
-    if !assign_all(table, &mut market, &mut search, scans)? {
+    let mut search = Search::new(alloc, gap, table.objects)?;
+    if !assign_all(table, gap, &mut market, &mut search, scans)? {
         return Ok(None);
     }
     let Market {
@@ -82,8 +88,7 @@ fn propose_full(alloc: Global, table: &Table, scans: u64) -> Result<Option<Propo
 /// augmenting paths. Source: Jonker and Volgenant, "A shortest augmenting path algorithm for dense and sparse linear
 /// assignment problems", Computing 38, 1987.
 ///
-/// Takes O(persons^2 * objects) time at most. Takes at most 44 bytes of memory an object and 4 a person, and where
-/// `gap` is given a copy of the table, 8 bytes an entry.
+/// Takes O(persons^2 * objects) time at most, and at most 44 bytes of memory an object and 4 a person.
 ///
 /// # Errors
 ///
@@ -94,14 +99,8 @@ pub fn propose(
     gap: Option<i64>,
     scans: u64,
 ) -> Result<Option<Proposal>, AllocError> {
-    let Some(gap) = gap else {
-        return propose_full(alloc, table, scans);
-    };
-    let costs = fill_gaps(alloc, table, gap)?;
-    let filled = Table {
-        stride: table.objects as usize,
-        costs: costs.as_slice(),
-        ..*table
-    };
-    propose_full(alloc, &filled, scans)
+    match gap {
+        Some(gap) => propose_by(alloc, table, Gap::<true>(gap), scans),
+        None => propose_by(alloc, table, Gap::<false>(0), scans),
+    }
 }

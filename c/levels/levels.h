@@ -71,7 +71,8 @@ typedef struct {
     size_t width;                     /* the objects without these */
     size_t entries;                   /* how many costs are no gaps, ways out included */
     int sign, by_columns;
-    int64_t *costs;          /* of a table, and of its ways out; a gap costs what a way out does, if there are some */
+    int64_t *costs;          /* of a table (a kept one may be the caller's), and of its ways out; a gap costs what a way out
+                              * does, if there are some */
     sigdorf_arc *arcs;       /* of a list; else NULL */
     uint32_t *first, *place; /* of each person the first arc, and one more; of each arc the caller's entry */
     void *block;             /* what the answer is made of */

@@ -1,6 +1,6 @@
 //! A run: its phases one after another, as the rules choose them (epsilon scaling).
 
-ghost use Rattle.std.specs.Prelude.{true, false, ℤ, List, pos, ◌≡◌, ◌≢◌, ◌⊎◌, ◌<◌, ◌-◌, ◌^◌, length};
+ghost use Rattle.std.specs.Prelude.{true, ℤ, List, pos, ◌≡◌, ◌⊎◌, ◌<◌, ◌-◌, ◌^◌, length};
 ghost use Rattle.std.specs.Prelude.{IfErr, IfNone, IfOk, IfSome, OnOk};
 ghost use Rattle.auc_claim.specs.declared.reason.Reason.{Reason};
 ghost use Rattle.auc_market.specs.Endings.{IsStart};

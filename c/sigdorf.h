@@ -166,7 +166,7 @@ int32_t sigdorf_solve_dense(uint32_t persons, uint32_t objects, const int64_t *c
  *   assignments the first is written: person 0 has the lowest object that it has in any of them, then person 1 the lowest
  *   that this leaves, and so on.
  * SIGDORF_BRACKET: an assignment whose sum is above the least one by found->gap at most, which was rounded up. It is left
- *   only where a phase has made `bids` bids, or the next bid would be above 2^61.
+ *   only where a phase has made `bids` bids, or prices have come to 2^61.
  * SIGDORF_INFEASIBLE: as of sigdorf_solve.
  * SIGDORF_SIZES, SIGDORF_MEMORY, SIGDORF_REFUSED: as of sigdorf_solve_dense, but that there are 4,194,303 objects at most,
  *   and that entries that are no gap number 268,435,456 at most together with the persons. NaN and -infinity are

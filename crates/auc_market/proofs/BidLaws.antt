@@ -1,8 +1,8 @@
 -- A bid raises the price, and satisfies epsilon-complementary slackness at the new one.
-use Rattle.std.proofs.Common.{◌≡◌, ℕ, ◌<◌, inl, inr, List, length, get_or, set, ap, sym, ◌∙◌, arith}
+use Rattle.std.proofs.Common.{◌≡◌, ℕ, ◌<◌, ◌^◌, inl, inr, List, length, get_or, set, ap, sym, ◌∙◌, arith}
 use Rattle.std.specs.Prelude.{ℤ, pos, ◌+ℤ◌, ◌-ℤ◌, ◌*ℤ◌, ◌≤ℤ◌, ◌<ℤ◌, ◌⊎◌, All}
 use Rattle.std.proofs.lemmas.Bool.{cases_eq}
-use Rattle.std.proofs.lemmas.Int.{ints}
+use Rattle.std.proofs.lemmas.Int.{by_lt_z, ints}
 use Rattle.std.proofs.lemmas.List.{get_or-set_same, get_or-set_other, get_or_default}
 use Rattle.std.proofs.lemmas.List.Elements.{All-contains}
 use Rattle.auc_graph.specs.Dual.{price_at}
@@ -27,6 +27,13 @@ best_least val row b h k d lt = by (h.others k d lt)
     by : (get_or row k d ≡ b.arc) ⊎ (b.second ≤ℤ val (get_or row k d)) → val b.arc ≤ℤ val (get_or row k d)
     by (inl same) = let e = ap val same in omega (arith, ints, e)
     by (inr above) = let i = h.is in let l = h.least in omega (arith, ints, above, i, l)
+
+-- a bid that is capped at the greatest price is from the least one up to the whole
+pub capped_between : (least margin amount : ℤ) → least ≤ℤ pos (2 ^ 61) → pos 0 ≤ℤ margin → ((least +ℤ margin) ≤ℤ pos (2 ^ 61) → amount ≡ (least +ℤ margin)) → (pos (2 ^ 61) <ℤ (least +ℤ margin) → amount ≡ pos (2 ^ 61)) → (least ≤ℤ amount) × (amount ≤ℤ (least +ℤ margin)) × (amount ≤ℤ pos (2 ^ 61))
+capped_between least margin amount most some whole capped =
+    by_lt_z (pos (2 ^ 61)) (least +ℤ margin)
+    (λ high. let is = capped high in (omega (arith, ints, is, most), omega (arith, ints, is, high), omega (arith, ints, is)))
+    (λ fits. let is = whole fits in (omega (arith, ints, is, some), omega (arith, ints, is), omega (arith, ints, is, fits)))
 
 -- the margin: what a bid adds to the price beside eps
 pub IsLead : List ShortArc → Best → ℤ → Type 0

@@ -65,9 +65,8 @@ fn amount_of(least: i64, margin: i64) -> i64
     requires low { pos 0 ≤ℤ least }
     requires most { least ≤ℤ pos (2 ^ 61) }
     requires margin { pos 0 ≤ℤ margin }
-    ensures low { least ≤ℤ result }
-    ensures high { result ≤ℤ (least +ℤ margin) }
-    ensures most { result ≤ℤ pos (2 ^ 61) }
+    ensures whole { (least +ℤ margin) ≤ℤ pos (2 ^ 61) → result ≡ least +ℤ margin }
+    ensures capped { pos (2 ^ 61) <ℤ (least +ℤ margin) → result ≡ pos (2 ^ 61) }
 {
     if margin < MOST_PRICE - least {
         least + margin

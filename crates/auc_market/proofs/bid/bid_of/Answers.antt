@@ -8,7 +8,7 @@ use Rattle.auc_rows.specs.Rows.{FlatTable, IsFlatTable, IsShort, flat_row_of, sc
 use Rattle.auc_market.specs.declared.best.Best.{Best}
 use Rattle.auc_market.specs.Scan.{endless, short_value}
 use Rattle.auc_market.specs.Shortlist.{IsBest}
-use Rattle.auc_market.proofs.BidLaws.{margin_is, offer_is, raise_is}
+use Rattle.auc_market.proofs.BidLaws.{capped_between, margin_is, offer_is, raise_is}
 use Rattle.auc_market.proofs.Bounds.{scaled_low}
 use Rattle.auc_market.proofs.bid.bid_of.Goals as goal
 use Rattle.auc_graph.proofs.ValueBounds.{price_fits}
@@ -49,8 +49,9 @@ returns-clause-raise c =
     let i = price_in r val c.args.prices.now c.args._person c.args.best c.persons.ensures.sound c.requires.many c.requires.prices s in
     let f9 : FitsSigned w64 (get_or c.args.prices.now arc.object (pos 0)) = price_fits (get_or c.args.prices.now arc.object (pos 0)) i in
     let least = simp to_z-of_z at c.least_of-least.ensures in
-    let low = simp to_z-of_z at c.amount_of-amount.ensures.low in
-    let high = simp to_z-of_z at c.amount_of-amount.ensures.high in
+    let between = capped_between c.least_of-least.result c.margin_of.result c.amount_of-amount.result (let m = simp to_z-of_z at c.if-least-gt-MOST_PRICE.false in omega (arith, ints, m)) c.margin_of.ensures.low (simp to_z-of_z at c.amount_of-amount.ensures.whole) (simp to_z-of_z at c.amount_of-amount.ensures.capped) in
+    let low = between.0 in
+    let high = between.1 in
     let next : c.args.best.second <ℤ endless → c.margin_of.result ≡ (c.args.best.second -ℤ c.args.best.value) = search rules in
     let margin = c.amount_of-amount.result -ℤ c.least_of-least.result in
     let lead = margin_is val (flat_row_of r c.args._person) c.args.best margin s (omega (arith, ints, low)) (λ h. (let n = next h in omega (arith, ints, high, n))) in
@@ -71,10 +72,19 @@ returns-clause-offer c =
     let i = price_in r val c.args.prices.now c.args._person c.args.best c.persons.ensures.sound c.requires.many c.requires.prices s in
     let f9 : FitsSigned w64 (get_or c.args.prices.now arc.object (pos 0)) = price_fits (get_or c.args.prices.now arc.object (pos 0)) i in
     let least = simp to_z-of_z at c.least_of-least.ensures in
-    let low = simp to_z-of_z at c.amount_of-amount.ensures.low in
-    let high = simp to_z-of_z at c.amount_of-amount.ensures.high in
+    let between = capped_between c.least_of-least.result c.margin_of.result c.amount_of-amount.result (let m = simp to_z-of_z at c.if-least-gt-MOST_PRICE.false in omega (arith, ints, m)) c.margin_of.ensures.low (simp to_z-of_z at c.amount_of-amount.ensures.whole) (simp to_z-of_z at c.amount_of-amount.ensures.capped) in
+    let low = between.0 in
+    let high = between.1 in
     let next : c.args.best.second <ℤ endless → c.margin_of.result ≡ (c.args.best.second -ℤ c.args.best.value) = search rules in
     let only : endless ≤ℤ c.args.best.second → c.margin_of.result ≡ (scale_in r *ℤ r.spread) = search rules in
     let margin = c.amount_of-amount.result -ℤ c.least_of-least.result in
     simp to_z-of_z (offer_is (scale_in r) r.spread c.args.eps c.args.prices.now (flat_row_of r c.args._person) c.args.best margin (scale_in r *ℤ r.spread) c.amount_of-amount.result s
     (λ h. (let n = next h in omega (arith, ints, high, n))) (λ h. (let o = only h in omega (arith, ints, high, o))) (omega (arith, ints, low)) (scaled_low r c.persons.ensures.sound) refl (omega (arith, ints, least)))
+
+pub returns-clause-within : goal.returns-clause-within
+returns-clause-within c =
+    let f2 : FitsSigned w64 c.least_of-least.result = search rules in
+    let f4 : FitsSigned w64 c.margin_of.result = search rules in
+    let f6 : FitsSigned w64 c.amount_of-amount.result = search rules in
+    let between = capped_between c.least_of-least.result c.margin_of.result c.amount_of-amount.result (let m = simp to_z-of_z at c.if-least-gt-MOST_PRICE.false in omega (arith, ints, m)) c.margin_of.ensures.low (simp to_z-of_z at c.amount_of-amount.ensures.whole) (simp to_z-of_z at c.amount_of-amount.ensures.capped) in
+    simp to_z-of_z between.2

@@ -7,7 +7,7 @@ use Rattle.auc_graph.specs.Problem.{Problem}
 use Rattle.auc_answers.specs.Claims.{holder_at as held_at}
 use Rattle.auc_letters.specs.declared.state.Held.{Held}
 use Rattle.auc_rows.specs.declared.arc.ShortArc.{ShortArc}
-use Rattle.auc_rows.proofs.ArcLaws.{none}
+use Rattle.auc_graph.proofs.ArcLaws.{none}
 use Rattle.auc_letters.specs.declared.limits.TheConstants.{NOBODY}
 use Rattle.auc_direct.specs.Held.{AreHeld, AreListed, IsHeld, arc_by}
 use Rattle.auc_market.specs.Market.{holder_at, no_own, own_at}

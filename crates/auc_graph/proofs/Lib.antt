@@ -6,10 +6,10 @@ pub mod LowerLaws
 pub mod LowerRange
 pub mod InMemoryLaws
 pub mod Scale
-pub mod SpreadLaws
 pub mod ValueBounds
 pub mod RowLaws
 pub mod LayoutLaws
+pub mod ArcLaws
 pub mod BoundLaws
 -- for this crate
 mod TokenLaws
@@ -22,6 +22,7 @@ mod AlikeLaws
 mod PieceLaws
 mod EndLaws
 mod CountLaws
+mod SpreadLaws
 mod InOrderLaws
 mod LeastLaws
 mod PriceSums

@@ -1,15 +1,11 @@
 //! The layout of the rows, for arcs in the order of their persons, and the spread of their costs: one pass over the
 //! arcs, each appended to the others.
 
-ghost use Rattle.std.specs.Prelude.{◌≡◌, ◌<◌, ◌≤◌, ◌+◌, ◌*◌, ◌^◌, ◌≤ℤ◌, pos, neg_ℤ, ℕ, length, slice_index};
-ghost use Rattle.std.specs.Prelude.{slice_index_or, slice_range, vec_capacity, All, IfOk, IfSome};
-ghost use Rattle.auc_graph.specs.Row.{row, IsSpread};
-ghost use Rattle.auc_graph.specs.Layout.{AreOffsets};
-ghost use Rattle.auc_graph.specs.declared.limits.TheConstants.{MOST_COST};
+ghost use Rattle.std.specs.Prelude.{◌≡◌, ◌≤◌, ℕ, length, slice_index_or, vec_capacity, IfOk, IfSome};
+ghost use Rattle.auc_graph.specs.Layout.{IsLaidOut};
 
-use crate::arc::Arc;
-use crate::layout::LaidOut;
-use crate::limits::{MOST_ARCS, MOST_PERSONS};
+use crate::arc::ArcList;
+use crate::layout::{Kept, LaidOut};
 use crate::rows::RowArc;
 use std::alloc::{AllocError, Global};
 
@@ -28,24 +24,16 @@ fn begin_rows(offsets: &mut Vec<usize>, len: usize, at: usize)
 }
 
 /// The layout of the rows, where there are arcs and they are in the order of their persons.
-pub(crate) fn rows_in_order(
+pub(crate) fn rows_in_order<A: Kept, F: FnMut(A)>(
     alloc: Global,
-    persons: u32,
-    arcs: &[Arc],
-) -> Result<Option<LaidOut>, AllocError>
-    requires most { persons ≤ MOST_PERSONS }
-    requires few { length arcs.now ≤ MOST_ARCS }
-    requires persons { All (λ a. a.person < persons) arcs.now }
-    requires costs { All (λ a. (neg_ℤ MOST_COST ≤ℤ a.cost) × (a.cost ≤ℤ MOST_COST)) arcs.now }
-    ensures offsets { IfOk result (λ r. IfSome r (λ x. AreOffsets x.offsets.items persons arcs.now)) }
-    ensures len { IfOk result (λ r. IfSome r (λ x. length x.arcs.items ≡ length arcs.now)) }
-    ensures rows { IfOk result
-        (λ r. IfSome r (λ x. (k : ℕ) → k < persons → slice_range x.arcs.items (slice_index x.offsets.items k)
-        (slice_index x.offsets.items (k + 1)) ≡ row k arcs.now)) }
-    ensures spread { IfOk result (λ r. IfSome r (λ x. IsSpread arcs.now x.spread)) }
-    ensures low { IfOk result (λ r. IfSome r (λ x. pos 0 ≤ℤ x.spread)) }
-    ensures high { IfOk result (λ r. IfSome r (λ x. x.spread ≤ℤ pos (2 * 10 ^ 9))) }
+    problem: &ArcList,
+    note: &mut F,
+) -> Result<Option<LaidOut<A>>, AllocError>
+    requires { (state : F) (x : _) → F.pre state x }
+    ensures { IfOk result (λ r. IfSome r (IsLaidOut A.of problem.now)) }
 {
+    let persons = problem.persons();
+    let arcs = problem.arcs();
     // With no arc there is no first cost, and nothing to gain here.
     let Some(first) = arcs.first() else {
         return Ok(None);
@@ -63,18 +51,22 @@ pub(crate) fn rows_in_order(
             }
             begin_rows(&mut offsets, before, i);
         }
-        placed.push_reserved(RowArc {
+        let kept = A::of(RowArc {
             cost: arc.cost as i32,
             object: arc.object,
             arc: i as u32,
         });
+        placed.push_reserved(kept);
+        note(kept);
         least = least.min(arc.cost);
         greatest = greatest.max(arc.cost);
     }
     begin_rows(&mut offsets, persons as usize + 1, arcs.len());
     Ok(Some(LaidOut {
+        persons,
+        objects: problem.objects(),
+        spread: greatest - least,
         offsets,
         arcs: placed,
-        spread: greatest - least,
     }))
 }

@@ -36,6 +36,7 @@ pub use laws::{
     assigned_persons_have_arcs, assignments_leave_no_price, bounds_fit, limits_are, prices_are_few,
     prices_bound_costs, slack_right_costs_least, wanted_objects_are_read,
 };
+pub use layout::{Kept, LaidOut, laid_out};
 pub use limits::{
     MOST_ARCS, MOST_COST, MOST_OBJECTS, MOST_PERSONS, MOST_PRICE, MOST_READS, MOST_SCALE,
     TEXT_ARCS, TEXT_OBJECTS, TEXT_PERSONS,

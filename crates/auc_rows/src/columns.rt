@@ -19,15 +19,6 @@ impl Columns {
         Ok(Columns { least })
     }
 
-    /// The least costs of these arcs.
-    pub fn of(alloc: Global, objects: u32, arcs: &[ShortArc]) -> Result<Columns, AllocError> {
-        let mut columns = Columns::new(alloc, objects)?;
-        for arc in arcs {
-            columns.note(*arc);
-        }
-        Ok(columns)
-    }
-
     /// Takes in one more arc.
     #[inline(always)]
     pub fn note(&mut self, arc: ShortArc) {

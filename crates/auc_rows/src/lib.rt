@@ -9,7 +9,6 @@
 
 mod arc;
 mod columns;
-mod layout;
 mod rows;
 
 pub use arc::ShortArc;

@@ -1,86 +1,72 @@
 //! The rows of a problem, in arcs of eight bytes.
 
-ghost use Rattle.std.specs.Prelude.{◌≡◌, ◌<◌, ◌≤◌, ◌*◌, ◌^◌, pos, ◌≤ℤ◌, All, length, IfOk};
+ghost use Rattle.std.specs.Prelude.{◌≡◌, ◌<◌, ◌*◌, ◌^◌, pos, ◌≤ℤ◌, All, length, IfOk};
 ghost use Rattle.auc_graph.specs.declared.limits.TheConstants.{MOST_SCALE};
 ghost use Rattle.auc_rows.specs.Rows.{AreRowsOf, IsShort, flat_row_of};
-ghost use Rattle.auc_rows.specs.Layout.{IsLaidOut, part};
 
 use crate::arc::ShortArc;
 use crate::columns::{Columns, UNKNOWN};
-use crate::layout::{LaidOut, laid_out};
-use auc_graph::ArcList;
+use auc_graph::{ArcList, LaidOut, laid_out};
 use std::alloc::{AllocError, Global};
 use std::marker::Model;
 
 /// The arcs of each person, in the order of the problem's list, with no place in it; and the spread of all costs.
 ///
-/// All rows lie one after another in one vector. Whether they are a full table is found once, when they are built. No
-/// clause depends on it; a solver may choose another method there.
+/// Whether they are a full table is found once, when they are built. No clause depends on it; a solver may choose
+/// another method there.
 #[derive(Drop)]
 pub struct FlatRows {
-    spread: i64,
-    persons: u32,
-    objects: u32,
-    starts: Vec<usize>,
-    arcs: Vec<ShortArc>,
+    laid: LaidOut<ShortArc>,
     columns: Columns,
     is_full: bool,
 }
 
 impl Model for FlatRows {
     ghost use Rattle.auc_rows.specs.Rows.{FlatTable, IsFlatTable};
-    ghost use Rattle.auc_rows.specs.Layout.{IsLaidOut, parts};
+    ghost use Rattle.auc_graph.specs.Layout.{IsLayout, rows_between};
+    ghost use Rattle.std.specs.Prelude.{length};
 
     ghost Value = { FlatTable };
 
     ghost view = { λ r. record {
-      objects = r.objects;
-      spread = r.spread;
-      rows = parts r.starts.items r.arcs.items r.persons;
+      objects = r.laid.objects;
+      spread = r.laid.spread;
+      rows = rows_between r.laid.offsets.items r.laid.arcs.items r.laid.persons;
     } };
 
-    ghost invariant = { λ r. IsLaidOut r.starts.items r.arcs.items r.persons
+    ghost invariant = { λ r. IsLayout r.laid.offsets.items r.laid.persons (length r.laid.arcs.items)
         × IsFlatTable (record {
-          objects = r.objects;
-          spread = r.spread;
-          rows = parts r.starts.items r.arcs.items r.persons;
+          objects = r.laid.objects;
+          spread = r.laid.spread;
+          rows = rows_between r.laid.offsets.items r.laid.arcs.items r.laid.persons;
         }) };
 }
 
-/// Whether there are `persons` rows, and the arcs of each lead to all `objects` objects in order.
-fn are_full(arcs: &[ShortArc], persons: u32, objects: u32) -> bool {
-    if arcs.len() as u64 != u64::from(persons) * u64::from(objects) {
+/// Whether the arcs of each row lead to all objects in order.
+fn are_full(rows: &LaidOut<ShortArc>) -> bool {
+    if rows.arcs.len() as u64 != u64::from(rows.persons) * u64::from(rows.objects) {
         return false;
     }
     let mut wanted = 0;
-    for arc in arcs {
+    for arc in rows.arcs.as_slice() {
         if arc.object != wanted {
             return false;
         }
-        wanted = if wanted < objects - 1 { wanted + 1 } else { 0 };
+        wanted = if wanted < rows.objects - 1 {
+            wanted + 1
+        } else {
+            0
+        };
     }
     true
-}
-
-/// One of the rows that lie one after another.
-#[inline(always)]
-fn part_of<'a>(starts: &[usize], arcs: &'a [ShortArc], persons: u32, person: u32) -> &'a [ShortArc]
-    requires layout { IsLaidOut starts.now arcs.now persons }
-    requires person { person < persons }
-    ensures { result.now ≡ part starts.now arcs.now person }
-{
-    let start = starts[person as usize];
-    let end = starts[person as usize + 1];
-    &arcs[start..end]
 }
 
 impl FlatRows {
     ghost use Rattle.std.specs.Prelude.{IsTrue};
     ghost use Rattle.auc_rows.specs.Rows.{EachHasArc, IsFlatTable, scale_in};
 
-    /// The rows of a problem. Takes O(arcs + persons) time, and 8 bytes of memory an arc and 8 a person. Where the arcs
-    /// aren't in the order of their persons, [`auc_graph::Rows`] are made first, for where each row begins. They take
-    /// 12 bytes an arc, which are freed before the others are taken.
+    /// The rows of a problem. Takes O(arcs + persons) time, and 8 bytes of memory an arc and 8 a person; where the arcs
+    /// aren't in the order of their persons, 16 bytes more a person while it runs.
     ///
     /// # Errors
     ///
@@ -88,21 +74,11 @@ impl FlatRows {
     pub fn build(alloc: Global, problem: &ArcList) -> Result<FlatRows, AllocError>
         ensures { IfOk result (AreRowsOf problem.now) }
     {
-        let persons = problem.persons();
-        let objects = problem.objects();
-        let LaidOut {
-            starts,
-            arcs,
-            spread,
-            columns,
-        } = laid_out(alloc, problem)?;
-        let is_full = are_full(arcs.as_slice(), persons, objects);
+        let mut columns = Columns::new(alloc, problem.objects())?;
+        let laid = laid_out(alloc, problem, |arc| columns.note(arc))?;
+        let is_full = are_full(&laid);
         Ok(FlatRows {
-            spread,
-            persons,
-            objects,
-            starts,
-            arcs,
+            laid,
             columns,
             is_full,
         })
@@ -114,7 +90,7 @@ impl FlatRows {
         ensures persons { result ≡ length self.now.rows }
         ensures sound { IsFlatTable self.now }
     {
-        self.persons
+        self.laid.persons
     }
 
     /// The number of objects, which are numbered from 0.
@@ -123,7 +99,7 @@ impl FlatRows {
         ensures objects { result ≡ self.now.objects }
         ensures sound { IsFlatTable self.now }
     {
-        self.objects
+        self.laid.objects
     }
 
     /// The number of persons plus one, by which costs are scaled.
@@ -144,7 +120,7 @@ impl FlatRows {
         ensures low { pos 0 ≤ℤ result }
         ensures high { result ≤ℤ pos (2 * 10 ^ 9) }
     {
-        self.spread
+        self.laid.spread
     }
 
     /// The least cost of the arcs that lead to an object, in costs of the file; none where there are none. No clause
@@ -158,7 +134,7 @@ impl FlatRows {
     /// The number of all arcs.
     #[inline]
     pub fn arc_count(&self) -> usize {
-        self.arcs.len()
+        self.laid.arcs.len()
     }
 
     /// Whether each person has an arc to each object, one each, in order: a full table. O(1).
@@ -185,7 +161,7 @@ impl FlatRows {
     pub fn start(&self, person: u32) -> usize
         requires { person < length self.now.rows }
     {
-        self.starts[person as usize]
+        self.laid.offsets[person as usize]
     }
 
     /// The arcs of a person, in the order of the problem's list. O(1).
@@ -196,11 +172,6 @@ impl FlatRows {
         ensures each { All (IsShort self.now.objects) result.now }
         ensures sound { IsFlatTable self.now }
     {
-        part_of(
-            self.starts.as_slice(),
-            self.arcs.as_slice(),
-            self.persons,
-            person,
-        )
+        self.laid.row(person)
     }
 }

@@ -4,7 +4,7 @@ use Rattle.std.proofs.lemmas.List.{length-set}
 use Rattle.std.proofs.lemmas.Option.{slice_get-get_or}
 use Rattle.auc_graph.specs.declared.arc.Arc.{Arc}
 use Rattle.auc_letters.specs.declared.state.Held.{Held}
-use Rattle.auc_rows.proofs.ArcLaws.{none, within_at}
+use Rattle.auc_graph.proofs.ArcLaws.{none, within_at}
 use Rattle.auc_letters.specs.declared.limits.TheConstants.{NOBODY}
 use Rattle.auc_direct.specs.Held.{IsHeld, arc_by}
 use Rattle.auc_market.specs.Market.{holder_at, own_at}

@@ -1,15 +1,15 @@
 use Rattle.std.proofs.Common.{◌<◌, length, sym, ap, ◌∙◌, arith}
 use Rattle.auc_rows.specs.Rows.{IsFlatTable, FlatTable, flat_row_of}
-use Rattle.auc_rows.proofs.RowLaws.{length-parts, part_at}
+use Rattle.auc_graph.proofs.LayoutLaws.{length-rows_between, row_at}
 use Rattle.auc_rows.proofs.rows.FlatRows.row.Goals as goal
 
-pub part_of-requires-clause-person : goal.part_of-requires-clause-person
-part_of-requires-clause-person c = omega (arith, c.requires, ap (λ (r : FlatTable). length r.rows) c.self.view_is, length-parts c.self.inside.starts.items c.self.inside.arcs.items c.self.inside.persons)
+pub row-requires-clause-person : goal.row-requires-clause-person
+row-requires-clause-person c = omega (arith, c.requires, ap (λ (r : FlatTable). length r.rows) c.self.view_is, length-rows_between c.self.inside.laid.offsets.items c.self.inside.laid.arcs.items c.self.inside.laid.persons)
 
 row_is : goal.returns-clause-row
 row_is c =
-    let lt : c.args.person < c.self.inside.persons = omega (arith, c.requires, ap (λ (r : FlatTable). length r.rows) c.self.view_is, length-parts c.self.inside.starts.items c.self.inside.arcs.items c.self.inside.persons) in
-    rw (c.part_of.ensures, c.as_slice.ensures.value, c.as_slice-2.ensures.value) (sym (part_at c.self.inside.starts.items c.self.inside.arcs.items c.self.inside.persons c.args.person lt)
+    let lt : c.args.person < c.self.inside.laid.persons = omega (arith, c.requires, ap (λ (r : FlatTable). length r.rows) c.self.view_is, length-rows_between c.self.inside.laid.offsets.items c.self.inside.laid.arcs.items c.self.inside.laid.persons) in
+    rw c.row.ensures (sym (row_at c.self.inside.laid.offsets.items c.self.inside.laid.arcs.items c.self.inside.laid.persons c.args.person lt)
     ∙ ap (λ (r : FlatTable). flat_row_of r c.args.person) c.self.view_is)
 
 pub returns-clause-row : goal.returns-clause-row

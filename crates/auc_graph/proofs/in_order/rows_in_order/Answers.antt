@@ -81,7 +81,7 @@ returns g c =
       persons = c.persons-persons.ensures.persons;
       objects = c.objects.ensures.objects;
       rows = rw (← c.persons-persons.ensures.persons, ← c.arcs-arcs.ensures.arcs) h;
-      spread = inr (least, greatest, of_all, refl);
+      spread = inr (least, greatest, of_all, refl {a = greatest -ℤ least});
       low = omega (arith, ints, ordered);
       high = omega (arith, ints, low, high);
     })

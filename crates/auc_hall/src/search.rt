@@ -5,9 +5,8 @@
 ghost use Rattle.std.specs.Prelude.{◌≡◌, ◌<◌, ℕ, length, All, Some, None, true, false, slice_index_or, slice_get, IfOk};
 ghost use Rattle.std.specs.Prelude.{OnOk, IfSome, IfNone};
 ghost use Rattle.auc_graph.specs.Table.{row_of};
-ghost use Rattle.auc_hall.specs.Partial.{pick};
-ghost use Rattle.auc_hall.specs.Matched.{IsMatched};
-ghost use Rattle.auc_hall.specs.Search.{Reaches, AreWalked, WasSeen, IsSearch, LeadsOut, Grows};
+ghost use Rattle.auc_hall.specs.Search.{Reaches, AreHolders, AreWalked, WasSeen, HoldsNothing, IsSearch, LeadsOut};
+ghost use Rattle.auc_hall.specs.Search.{Grows};
 
 use crate::free_arc::free_arc;
 use auc_graph::{RowArc, Rows};
@@ -34,19 +33,16 @@ pub(crate) struct PathEnd {
 /// the first of the whole queue who has one, since each one before was tested when appended.
 fn walk(
     rows: &Rows,
-    _choice: &[Option<RowArc>],
     holder: &[Option<u32>],
     seen: &mut [bool],
     scanned: &mut [usize],
     queue: &mut Vec<Reached>,
     at: usize,
 ) -> Result<Option<PathEnd>, AllocError>
-    requires matched { IsMatched rows.now _choice.now holder.now }
-    requires search { IsSearch rows.now _choice.now holder.now queue.old.items seen.old }
+    requires holders { AreHolders rows.now holder.now }
+    requires search { IsSearch rows.now holder.now queue.old.items seen.old }
     requires at { at < length queue.old.items }
-    requires scanned { length scanned.old ≡ length rows.now.rows }
-    ensures scanned { length scanned.new ≡ length scanned.old }
-    ensures search { OnOk result (IsSearch rows.now _choice.now holder.now queue.new.items seen.new) }
+    ensures search { OnOk result (IsSearch rows.now holder.now queue.new.items seen.new) }
     ensures grows { OnOk result (Grows queue.old.items queue.new.items) }
     ensures kept { (j : ℕ) → WasSeen seen.old j → WasSeen seen.new j }
     ensures found { IfOk result (λ r. IfSome r (λ f. LeadsOut rows.now holder.now queue.new.items f.at f.arc)) }
@@ -97,21 +93,18 @@ fn forget(seen: &mut [bool], queue: &[Reached])
 /// before, and `scanned` is the number of arcs of each person that were scanned for a free object.
 pub(crate) fn search(
     rows: &Rows,
-    choice: &[Option<RowArc>],
     holder: &[Option<u32>],
     seen: &mut [bool],
     scanned: &mut [usize],
     queue: &mut Vec<Reached>,
     start: u32,
 ) -> Result<Option<PathEnd>, AllocError>
-    requires matched { IsMatched rows.now choice.now holder.now }
+    requires holders { AreHolders rows.now holder.now }
     requires start { start < length rows.now.rows }
-    requires free { pick choice.now start ≡ None }
+    requires free { HoldsNothing holder.now start }
     requires seen { length seen.old ≡ rows.now.objects }
     requires marks { (j : ℕ) → WasSeen seen.old j → Reaches queue.old.items j }
-    requires scanned { length scanned.old ≡ length rows.now.rows }
-    ensures scanned { length scanned.new ≡ length scanned.old }
-    ensures search { OnOk result (IsSearch rows.now choice.now holder.now queue.new.items seen.new) }
+    ensures search { OnOk result (IsSearch rows.now holder.now queue.new.items seen.new) }
     ensures first { OnOk result ((e : Reached) → slice_get queue.new.items 0 ≡ Some e → e.person ≡ start) }
     ensures found { IfOk result (λ r. IfSome r (λ f. LeadsOut rows.now holder.now queue.new.items f.at f.arc)) }
     ensures closed { IfOk result (λ r. IfNone r (AreWalked rows.now queue.new.items seen.new
@@ -133,7 +126,7 @@ pub(crate) fn search(
     }
     let mut at = 0;
     while at < queue.len() {
-        if let Some(found) = walk(rows, choice, holder, seen, scanned, queue, at)? {
+        if let Some(found) = walk(rows, holder, seen, scanned, queue, at)? {
             return Ok(Some(found));
         }
         at += 1;

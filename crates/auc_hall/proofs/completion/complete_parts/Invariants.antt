@@ -9,8 +9,7 @@ abbrev pub invariant-loop-person : goal.invariant-loop-person
 invariant-loop-person l = record {
   matched : IsMatched l.rows l.choice l.holder;
   done : (i : ℕ) → i < l.person → IsPlaced l.choice i;
-  seen : length l.seen ≡ l.rows.objects;
-  marks : (j : ℕ) → WasSeen l.seen j → Reaches l.queue.items j;
+  seen : length l.seen.items ≡ l.rows.objects;
+  marks : (j : ℕ) → WasSeen l.seen.items j → Reaches l.queue.items j;
   grown : (after : List (Option RowArc)) → IsGrown l.rows after l.choice → IsGrown l.rows after l.fn.choice;
-  scanned : length l.scanned ≡ length l.rows.rows;
 }

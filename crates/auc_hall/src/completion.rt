@@ -1,6 +1,6 @@
 //! The completion of a partial assignment.
 
-ghost use Rattle.std.specs.Prelude.{◌≡◌, ◌<◌, ◌^◌, ℕ, length, map, false, slice_index_or, IfOk};
+ghost use Rattle.std.specs.Prelude.{◌≡◌, map, IfOk};
 ghost use Rattle.auc_hall.specs.Assignment.{number_of};
 ghost use Rattle.auc_hall.specs.Partial.{IsFor};
 ghost use Rattle.auc_hall.specs.Matching.{IsMatching};

@@ -1,7 +1,6 @@
 //! The scan for a free object among the arcs of one person.
 
 ghost use Rattle.std.specs.Prelude.{◌≡◌, ◌<◌, length, IfSome};
-ghost use Rattle.auc_graph.specs.Table.{row_of};
 ghost use Rattle.auc_hall.specs.Search.{IsFreeArc};
 
 use auc_graph::{RowArc, Rows};

@@ -1,6 +1,6 @@
 //! Whether there is a full assignment: a search proposes one, and the proposal is checked.
 
-ghost use Rattle.std.specs.Prelude.{◌≡◌, ◌<◌, IsTrue, IfOk, length};
+ghost use Rattle.std.specs.Prelude.{◌<◌, IsTrue, IfOk, length};
 ghost use Rattle.auc_hall.specs.Full.{HasRowAssignment, HoldsOne};
 
 use crate::labels::Labels;

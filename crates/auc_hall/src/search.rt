@@ -2,7 +2,7 @@
 //!
 //! The queue of reached persons also records the paths: each entry has the place of the person before it on the path.
 
-ghost use Rattle.std.specs.Prelude.{◌≡◌, ◌<◌, ℕ, length, All, Some, None, true, false, slice_index_or, slice_get, IfOk};
+ghost use Rattle.std.specs.Prelude.{◌≡◌, ◌<◌, ℕ, length, All, Some, false, slice_index_or, slice_get, IfOk};
 ghost use Rattle.std.specs.Prelude.{OnOk, IfSome, IfNone};
 ghost use Rattle.auc_graph.specs.Table.{row_of};
 ghost use Rattle.auc_hall.specs.Search.{Reaches, AreHolders, AreWalked, WasSeen, HoldsNothing, IsSearch, LeadsOut};

@@ -5,7 +5,6 @@ use Rattle.std.proofs.lemmas.List.{take_more, drop_more, length-set, length-appe
 use Rattle.std.proofs.lemmas.List.Elements.{All-contains}
 use Rattle.std.proofs.lemmas.Bool.{cases_eq, cases_Bool, both_ways}
 use Rattle.std.proofs.lemmas.Option.{none-some, same_Some, slice_get_within}
-use Rattle.std.proofs.Math.Seq.{take-append_seam}
 use Rattle.auc_graph.specs.declared.rows.RowArc.{RowArc}
 use Rattle.auc_graph.specs.Table.{Table, row_of}
 use Rattle.auc_hall.specs.declared.search.Reached.{Reached}
@@ -135,7 +134,3 @@ done_more before choice queue person done kept first there starts placed i lt = 
 pub walked_same : (t : Table) (queue named : List Reached) (seen flags : List Bool) → named ≡ queue → flags ≡ seen → AreWalked t queue seen (length queue) → AreWalked t named flags (length named)
 walked_same t queue named seen flags e f w =
     subst (λ (q : List Reached). AreWalked t q flags (length q)) (sym e) (subst (λ (x : List Bool). AreWalked t queue x (length queue)) (sym f) w)
-
--- the flags of a vector after a call has written those of its slice
-pub written : (n : ℕ) (flags more : List Bool) → n ≡ length flags → take n (flags ++ more) ≡ flags
-written n flags more e = ap (λ (k : ℕ). take k (flags ++ more)) e ∙ take-append_seam flags more

@@ -1,7 +1,7 @@
 -- Steps of the search.
 use Rattle.std.proofs.Common.{◌≡◌, ◌≢◌, ℕ, ◌+◌, ◌<◌, ◌≤◌, Bool, true, false, List, [], ◌∷◌, ◌++◌, length, get_or, set, take, Option, Some, None, refl, sym, ap, subst, ◌∙◌, arith, inl, inr, Contains, All, append_assoc}
 use Rattle.std.specs.List.{slice_get}
-use Rattle.std.proofs.lemmas.List.{take_all, get_or_past, length-set, length-append, get_or-set_same, get_or-set_other}
+use Rattle.std.proofs.lemmas.List.{take_all, get_or_past, get_or_read, length-set, length-append, get_or-set_same, get_or-set_other}
 use Rattle.std.proofs.lemmas.List.Elements.{All-weaker, All-more, Contains-get_or}
 use Rattle.std.proofs.lemmas.Bool.{cases_eq, cases_Bool, both_ways}
 use Rattle.std.proofs.lemmas.Option.{same_Some, slice_get_within}
@@ -9,7 +9,7 @@ use Rattle.auc_graph.specs.declared.rows.RowArc.{RowArc}
 use Rattle.auc_graph.specs.Table.{Table, row_of}
 use Rattle.auc_hall.specs.declared.search.Reached.{Reached}
 use Rattle.auc_hall.specs.Matched.{holder_of}
-use Rattle.auc_hall.specs.Search.{AreHolders, HoldsNothing, WasSeen, Reaches, HasArc, AreSeen, AreWalked, IsSearch, IsFreeArc, LeadsOut, Grows}
+use Rattle.auc_hall.specs.Search.{AreHolders, AreMarks, HoldsNothing, WasSeen, HasArc, AreSeen, AreWalked, IsSearch, IsFreeArc, LeadsOut, Grows}
 use Rattle.auc_hall.proofs.QueueLaws.{blank, entry, get_kept, get_pushed, get_cases, was_there, first_only, still}
 use Rattle.auc_hall.proofs.FlagLaws.{count_set, count_none, count_most, seen_kept}
 use Rattle.auc_hall.proofs.ProblemLaws.{no_arc}
@@ -203,36 +203,42 @@ walked_more t old_queue queue old_seen seen at g at_lt kept before here m e lt h
 pub at_most : (t : Table) (queue : List Reached) (seen : List Bool) → AreSeen t queue seen → length queue ≤ t.objects + 1
 at_most t queue seen s = omega (arith, s.count, s.size, count_most seen)
 
--- What is still marked is the object of an entry of the queue from this place on.
+-- an object to which no arc of the queue leads from this place on has no flag
 abbrev pub AreLeft : List Reached → List Bool → ℕ → Type 0
-AreLeft queue seen at = (j : ℕ) → WasSeen seen j → (m : ℕ) × (e : Reached) × (slice_get queue m ≡ Some e) × (at ≤ m) × (e.arc.object ≡ j)
+AreLeft queue seen at = (j : ℕ) → ((m : ℕ) (e : Reached) → slice_get queue m ≡ Some e → at ≤ m → e.arc.object ≢ j) → get_or seen j false ≡ false
 
-pub all_left : (queue : List Reached) (seen : List Bool) → ((j : ℕ) → WasSeen seen j → Reaches queue j) → AreLeft queue seen 0
-all_left queue seen marks j h = let x = marks j h in (x.0, x.1, x.2, omega arith, x.4)
+pub all_left : (queue : List Reached) (seen : List Bool) → AreMarks queue seen → AreLeft queue seen 0
+all_left queue seen marks j others = marks j (λ m e h. others m e h (omega arith))
 
-pub left_past : (queue : List Reached) (seen : List Bool) (at : ℕ) → at < length queue → get_or seen (get_or queue at blank).arc.object false ≡ false → AreLeft queue seen at → AreLeft queue seen (at + 1)
-left_past queue seen at lt unseen left j h =
-    let x = left j h in
-    elim (cases_eq x.0 at) [
-      | inl e ↦
-          let is : get_or queue at blank ≡ x.1 = same_Some (get_or queue at blank) x.1 (sym (entry queue at lt) ∙ ap (λ (n : ℕ). slice_get queue n) (sym e) ∙ x.2) in
-          absurd (both_ways (get_or seen (get_or queue at blank).arc.object false) unseen (ap (λ (n : ℕ). get_or seen n false) (ap (λ (r : Reached). r.arc.object) is ∙ x.4) ∙ h))
-      | inr n ↦ (x.0, x.1, x.2, omega (arith, n, x.3), x.4)
+pub left_past : (queue : List Reached) (seen : List Bool) (at : ℕ) (q : Reached) → at < length queue → q ≡ get_or queue at q → get_or seen q.arc.object false ≡ false → AreLeft queue seen at → AreLeft queue seen (at + 1)
+left_past queue seen at q lt read unseen left j others =
+    elim (cases_eq j q.arc.object) [
+      | inl e ↦ ap (λ (k : ℕ). get_or seen k false) e ∙ unseen
+      | inr n ↦ left j (λ m e h le. elim (cases_eq m at) [
+        | inl s ↦
+            let is : get_or queue at blank ≡ e = same_Some (get_or queue at blank) e (sym (entry queue at lt) ∙ ap (λ (k : ℕ). slice_get queue k) (sym s) ∙ h) in
+            λ same. n (sym same ∙ ap (λ (r : Reached). r.arc.object) (sym (get_or_read queue at q lt read blank ∙ is)))
+        | inr d ↦ others m e h (omega (arith, d, le))
+      ])
     ]
 
-pub left_set : (queue : List Reached) (seen : List Bool) (at : ℕ) → at < length queue → (get_or queue at blank).arc.object < length seen → AreLeft queue seen at → AreLeft queue (set seen (get_or queue at blank).arc.object false) (at + 1)
-left_set queue seen at lt room left =
-    left_past queue (set seen (get_or queue at blank).arc.object false) at lt (get_or-set_same seen (get_or queue at blank).arc.object false false room)
-    (λ j h. elim (cases_eq j (get_or queue at blank).arc.object) [
-      | inl e ↦ absurd (both_ways (get_or (set seen (get_or queue at blank).arc.object false) j false) (ap (λ (n : ℕ). get_or (set seen (get_or queue at blank).arc.object false) n false) e ∙ get_or-set_same seen (get_or queue at blank).arc.object false false room) h)
-      | inr n ↦ left j (sym (get_or-set_other seen (get_or queue at blank).arc.object j false false n) ∙ h)
+pub left_set : (queue : List Reached) (seen : List Bool) (at : ℕ) (q : Reached) → at < length queue → q ≡ get_or queue at q → q.arc.object < length seen → AreLeft queue seen at → AreLeft queue (set seen q.arc.object false) (at + 1)
+left_set queue seen at q lt read room left =
+    left_past queue (set seen q.arc.object false) at q lt read (get_or-set_same seen q.arc.object false false room)
+    (λ j others. elim (cases_eq j q.arc.object) [
+      | inl e ↦ ap (λ (k : ℕ). get_or (set seen q.arc.object false) k false) e ∙ get_or-set_same seen q.arc.object false false room
+      | inr n ↦ get_or-set_other seen q.arc.object j false false n ∙ left j others
     ])
 
+pub left_beyond : (queue : List Reached) (seen : List Bool) (at : ℕ) (q : Reached) → at < length queue → q ≡ get_or queue at q → length seen ≤ q.arc.object → AreLeft queue seen at → AreLeft queue seen (at + 1)
+left_beyond queue seen at q lt read past left = left_past queue seen at q lt read (get_or_past seen q.arc.object false past) left
+
 pub none_left : (queue : List Reached) (seen : List Bool) (at : ℕ) → length queue ≤ at → AreLeft queue seen at → (j : ℕ) → get_or seen j false ≡ false
-none_left queue seen at le left j = elim (cases_Bool (get_or seen j false)) [
-  | inl t ↦ (let x = left j t in absurd (omega (arith, x.3, slice_get_within queue x.0 x.1 x.2)))
+none_left queue seen at le left j = left j (λ m e h from. absurd (omega (arith, le, from, slice_get_within queue m e h)))
+
+-- what a search has marked is what it has reached
+pub are_marks : (t : Table) (holder : List (Option ℕ)) (queue : List Reached) (seen : List Bool) → IsSearch t holder queue seen → AreMarks queue seen
+are_marks t holder queue seen s j others = elim (cases_Bool (get_or seen j false)) [
+  | inl seen_it ↦ (let x = s.marks.behind j seen_it in absurd (others x.0 x.1 x.2 x.4))
   | inr f ↦ f
 ]
-
-pub left_beyond : (queue : List Reached) (seen : List Bool) (at : ℕ) → at < length queue → length seen ≤ (get_or queue at blank).arc.object → AreLeft queue seen at → AreLeft queue seen (at + 1)
-left_beyond queue seen at lt past left = left_past queue seen at lt (get_or_past seen (get_or queue at blank).arc.object false past) left

@@ -53,6 +53,11 @@ WasSeen seen j = slice_index_or seen j false ≡ true
 abbrev pub Reaches : List Reached → ℕ → Type 0
 Reaches queue j = (m : ℕ) × (e : Reached) × (slice_get queue m ≡ Some e) × (0 < m) × (e.arc.object ≡ j)
 
+-- an object to which no arc of the queue leads has no flag
+abbrev pub AreMarks : List Reached → List Bool → Type 0
+AreMarks queue seen =
+    (j : ℕ) → ((m : ℕ) (e : Reached) → slice_get queue m ≡ Some e → e.arc.object ≢ j) → slice_index_or seen j false ≡ false
+
 -- the objects seen so far are exactly those of the queue after its first person
 pub record AreSeen (t : Table) (queue : List Reached) (seen : List Bool) : Type 0 where
   pub size : length seen ≡ t.objects

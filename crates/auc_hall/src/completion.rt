@@ -12,7 +12,7 @@ use crate::exchange::exchange;
 use crate::hall_set::hall_set;
 use crate::matching::Matching;
 use crate::partial::Partial;
-use crate::search::search;
+use crate::search::Search;
 use auc_graph::{Indices, RowArc, Rows};
 use std::alloc::{AllocError, Global};
 
@@ -43,26 +43,21 @@ fn complete_parts(
     ensures matching { IfOk result (IsMatching rows.now) }
     ensures grown { IfOk result (HasGrown rows.now choice.old) }
 {
-    let mut seen = vec![in alloc; false; rows.objects() as usize]?;
-    let mut scanned = vec![in alloc; 0; rows.persons() as usize]?;
-    let mut queue = Vec::with_capacity(alloc, rows.persons() as usize)?;
+    let mut search = Search {
+        seen: vec![in alloc; false; rows.objects() as usize]?,
+        scanned: vec![in alloc; 0; rows.persons() as usize]?,
+        queue: Vec::with_capacity(alloc, rows.persons() as usize)?,
+    };
     for person in 0..rows.persons() {
         if choice[person as usize].is_some() {
             continue;
         }
-        match search(
-            rows,
-            holder,
-            seen.as_mut_slice(),
-            scanned.as_mut_slice(),
-            &mut queue,
-            person,
-        )? {
+        match search.find(rows, holder, person)? {
             None => {
-                return hall_set(alloc, rows, seen.as_slice(), queue.as_slice());
+                return hall_set(alloc, rows, search.seen.as_slice(), search.queue.as_slice());
             }
             Some(found) => {
-                exchange(choice, holder, queue.as_slice(), found);
+                exchange(choice, holder, search.queue.as_slice(), found);
             }
         }
     }

@@ -1,11 +1,11 @@
-use Rattle.std.proofs.Common.{get_or, length, drop, None, arith, refl, sym, ap, inl, inr, subst, ◌∙◌}
+use Rattle.std.proofs.Common.{get_or, None, arith, refl, sym, inl, inr, subst, ◌∙◌}
 use Rattle.std.proofs.lemmas.Bool.{cases_eq}
 use Rattle.auc_hall.specs.Matched.{IsPlaced}
 use Rattle.auc_hall.specs.Chosen.{chosen}
 use Rattle.auc_hall.specs.Search.{IsAugmentingPath}
 use Rattle.auc_hall.specs.Completion.IsGrown.{stays}
 use Rattle.auc_hall.proofs.CompletionLaws.{grown_by, hall_answers}
-use Rattle.auc_hall.proofs.AnswerLaws.{is_assignment, done_more, walked_same, written}
+use Rattle.auc_hall.proofs.AnswerLaws.{is_assignment, done_more, walked_same}
 use Rattle.auc_hall.proofs.MatchedLaws.{holders_of}
 use Rattle.auc_hall.proofs.Options.{some_of}
 use Rattle.auc_hall.proofs.completion.complete_parts.Goals as goal
@@ -19,7 +19,6 @@ loop-person-preserved-then-is_some c =
         | inr n ↦ c.loop-person.invariant.done i (omega (arith, n))
       ];
       seen = c.loop-person.invariant.seen;
-      marks = c.loop-person.invariant.marks;
       grown = c.loop-person.invariant.grown;
     }
 
@@ -37,30 +36,24 @@ returns-clause-grown c = record {
   numbers = c.new.ensures ∙ c.in_ok-numbers_of.ensures;
 }
 
-pub search-requires-clause-holders : goal.search-requires-clause-holders
-search-requires-clause-holders c = holders_of c.args.rows.now c.loop-person.choice c.loop-person.holder c.loop-person.invariant.matched
+pub find-requires-clause-holders : goal.find-requires-clause-holders
+find-requires-clause-holders c = holders_of c.args.rows.now c.loop-person.choice c.loop-person.holder c.loop-person.invariant.matched
 
 pub hall_set-requires-clause-walked : goal.hall_set-requires-clause-walked
-hall_set-requires-clause-walked c =
-    let seen = c.in_ok-search.ensures.search.marks.size in
-    let is = written c.loop-person.seen.len c.search.new.seen (drop (length c.search.new.seen) c.loop-person.seen.items) (omega (arith, seen)) in
-    walked_same c.args.rows.now c.search.new.queue.items c.as_slice-in-None.result.now c.search.new.seen c.as_slice.result.now c.as_slice-in-None.ensures.value (c.as_slice.ensures.value ∙ is) (rw c.in-None.is at c.in_ok-search.ensures.closed)
+hall_set-requires-clause-walked c = walked_same c.args.rows.now c.find.new.self.queue.items c.as_slice-in-None.result.now c.find.new.self.seen.items c.as_slice.result.now c.as_slice-in-None.ensures.value c.as_slice.ensures.value (rw c.in-None.is at c.in_ok-find.ensures.closed)
 
 pub loop-person-preserved : goal.loop-person-preserved
 loop-person-preserved c =
-    let search = c.in_ok-search.ensures.search in
-    let seen = search.marks.size in
-    let is = written c.loop-person.seen.len c.search.new.seen (drop (length c.search.new.seen) c.loop-person.seen.items) (omega (arith, seen)) in
+    let search = c.in_ok-find.ensures.search in
     let path : IsAugmentingPath c.args.rows.now c.loop-person.choice c.loop-person.holder c.as_slice-in-Some.result.now c.in-Some.found.at c.in-Some.found.arc = rw c.as_slice-in-Some.ensures.value (record {
       matched = c.loop-person.invariant.matched;
       trail = search.trail;
       starts = search.starts;
-      out = rw c.in-Some.is at c.in_ok-search.ensures.found;
+      out = rw c.in-Some.is at c.in_ok-find.ensures.found;
     }) in
     record {
       matched = c.exchange.ensures.matched c.args.rows.now path;
-      done = done_more c.loop-person.choice c.exchange.new.choice c.search.new.queue.items c.loop-person.person c.loop-person.invariant.done c.exchange.ensures.kept search.starts.by search.starts.there c.in_ok-search.ensures.first (λ e h. c.exchange.ensures.first e (rw c.as_slice-in-Some.ensures.value h));
-      seen = ap length is ∙ search.marks.size;
-      marks = rw is search.marks.behind;
+      done = done_more c.loop-person.choice c.exchange.new.choice c.find.new.self.queue.items c.loop-person.person c.loop-person.invariant.done c.exchange.ensures.kept search.starts.by search.starts.there c.in_ok-find.ensures.first (λ e h. c.exchange.ensures.first e (rw c.as_slice-in-Some.ensures.value h));
+      seen = search.marks.size;
       grown = λ after x. c.loop-person.invariant.grown after (grown_by (c.exchange.ensures.exchange c.args.rows.now path) x);
     }

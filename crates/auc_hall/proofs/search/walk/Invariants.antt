@@ -1,8 +1,0 @@
-use Rattle.std.proofs.Common.{get_or}
-use Rattle.auc_graph.specs.Table.{row_of}
-use Rattle.auc_hall.proofs.QueueLaws.{blank}
-use Rattle.auc_hall.proofs.SearchLaws.{IsWalk}
-use Rattle.auc_hall.proofs.search.walk.Given as goal
-
-abbrev pub invariant-loop-arc : goal.invariant-loop-arc
-invariant-loop-arc l = IsWalk l.rows l.holder l.fn.queue.items l.queue.items l.fn.seen l.seen (row_of l.rows (get_or l.fn.queue.items l.at blank).person) l.arc-index

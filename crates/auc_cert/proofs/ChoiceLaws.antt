@@ -14,9 +14,9 @@ use Rattle.auc_cert.specs.Form.{AreObjects, IsChoiceIn, objects_in, persons_in}
 use Rattle.auc_cert.specs.Text.{assign_line, price_line, numbered, joined, choice_lines}
 use Rattle.auc_cert.specs.CertReading.{IsFirstBadOf, ChoiceLines}
 use Rattle.auc_cert.specs.Runs.{IsRun, BreaksOff, From}
-use Rattle.auc_cert.specs.SecondLine.{AreCounted, AreSizes}
+use Rattle.auc_cert.specs.SecondLine.{AreSizes}
 use Rattle.auc_cert.proofs.RunLaws.{picks_apart, prices_apart, same_run, same_rest, next_of}
-use Rattle.auc_cert.proofs.SizeLaws.{are_counted, objects_few, objects_fit, objects_some, persons_few, persons_fit}
+use Rattle.auc_cert.proofs.SizeLaws.{AreCounted, are_counted, objects_few, objects_fit, objects_some, persons_few, persons_fit}
 use Rattle.auc_cert.proofs.TextLines.{AreLines, GoesOn, bad_of, picks_lines, prices_lines, lines_append}
 use Rattle.auc_graph.proofs.PriceLaws.{zero_is_price}
 use Rattle.auc_cert.proofs.WriteLaws.{numbered_append}

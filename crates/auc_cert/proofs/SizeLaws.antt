@@ -7,7 +7,7 @@ use Rattle.auc_claim.specs.Spelled.{least_behind}
 use Rattle.auc_cert.specs.declared.form.Form.{Form}
 use Rattle.auc_cert.specs.declared.form.Form.TheVariants.{Usual, Large}
 use Rattle.auc_cert.specs.Form.{AreNamedIn, least_last, least_named, objects_in, persons_in}
-use Rattle.auc_cert.specs.SecondLine.{AreSizes, AreCounted, AreCounts}
+use Rattle.auc_cert.specs.SecondLine.{AreSizes, AreCounts}
 use Rattle.auc_claim.proofs.RisingLaws.{rises_room}
 use Rattle.auc_claim.proofs.VersionLaws.{most_is_few, most_is_some, most_above}
 
@@ -36,6 +36,13 @@ last_is_in (Usual Second) = omega arith
 last_is_in Large = omega arith
 
 -- ---- sizes
+
+-- the limits of the numbers of persons and objects of a claim
+pub record AreCounted (form : Form) (persons objects : ℕ) : Type 0 where
+  pub some : 1 ≤ persons
+  pub most : persons ≤ persons_in form
+  pub enough : persons ≤ objects
+  pub few : objects ≤ objects_in form
 
 pub are_counted : (form : Form) (n m : ℕ) → AreSizes form n m → AreCounted form n m
 are_counted (Usual First) n m is = let same : m ≡ n = is.beside in let most : n ≤ 10000 = is.count.most in record { some = is.count.some; most = most; enough = omega arith; few = omega arith }

@@ -4,7 +4,7 @@ use Rattle.std.specs.Int.{w64}
 use Rattle.auc_cert.specs.declared.form.Form.{Form}
 use Rattle.auc_cert.specs.declared.second_line.SecondLine.{SecondLine}
 use Rattle.auc_cert.specs.declared.second_line.SecondLine.TheVariants.{Optimal, Infeasible, Bracket}
-use Rattle.auc_cert.specs.Form.{AreObjects, least_named, objects_in, persons_in}
+use Rattle.auc_cert.specs.Form.{AreObjects, least_named, persons_in}
 use Rattle.auc_cert.specs.Text.{optimal_line, infeasible_line, bracket_line}
 use Rattle.auc_cert.specs.CertReading.{ChoiceLines, NameLines}
 
@@ -18,13 +18,6 @@ second_line form (Bracket reason persons objects lower cost) = bracket_line form
 pub record IsCount (form : Form) (n : ℕ) : Type 0 where
   pub some : 1 ≤ n
   pub most : n ≤ persons_in form
-
--- the limits of the numbers of persons and objects of a claim
-pub record AreCounted (form : Form) (persons objects : ℕ) : Type 0 where
-  pub some : 1 ≤ persons
-  pub most : persons ≤ persons_in form
-  pub enough : persons ≤ objects
-  pub few : objects ≤ objects_in form
 
 -- the numbers of persons and objects of a claim, by the form of its text
 pub record AreSizes (form : Form) (persons objects : ℕ) : Type 0 where

@@ -1,6 +1,6 @@
 //! The checker: whether a claim is true of a problem.
 
-ghost use Rattle.std.specs.Prelude.{◌≡◌, ◌≤◌, ◌<◌, ◌+◌, ◌∷◌, [], true, None, All, IsOk, length};
+ghost use Rattle.std.specs.Prelude.{◌≡◌, ◌≤◌, ◌<◌, ◌+◌, ◌∷◌, [], true, None, All, IsOk, List, length, ℤ};
 ghost use Rattle.std.specs.List.{position};
 ghost use Rattle.auc_graph.specs.Memory.{AnswersUnless};
 ghost use Rattle.auc_graph.specs.Problem.{IsProblem};
@@ -27,21 +27,19 @@ fn is_sized(problem: &ArcList, choice: &[Pick], prices: &[i64]) -> bool
     choice.len() == problem.persons() as usize && prices.len() == problem.objects() as usize
 }
 
-/// Whether the picks are an assignment of this cost: each an arc of its person, no object twice. There are as many
-/// picks as persons, and `missing` is the first person whose pick is no arc of that person.
+/// Whether the picks are an assignment of this cost: each an arc of its person, no object twice. `missing` is the first
+/// person whose pick is no arc of that person. The numbers of picks and of prices are tested before.
 fn check_picks(
     alloc: Global,
     problem: &ArcList,
     cost: i64,
     choice: &[Pick],
-    _prices: &[i64],
     missing: Option<u32>,
 ) -> Result<(), CertRefused>
     requires few { length choice.now ≤ MOST_PERSONS }
-    requires sized { is_sized problem.now choice.now _prices.now ≡ true }
     requires missing { missing ≡ position (is_missing problem.now.arcs) (chosen 0 choice.now) }
-    ensures exact { AnswersUnless CertRefused.NoMemory (λ x. x) result
-        (IsVerdict (first_of (choice_faults problem.now cost choice.now _prices.now))) }
+    ensures exact { (prices : List ℤ) → is_sized problem.now choice.now prices ≡ true → AnswersUnless
+        CertRefused.NoMemory (λ x. x) result (IsVerdict (first_of (choice_faults problem.now cost choice.now prices))) }
     ensures objects { IsOk result → All (λ p. p.object < problem.now.objects) choice.now }
 {
     if let Some(person) = missing {
@@ -137,7 +135,7 @@ fn check_optimal(
     }
     let scale = problem.persons() + 1;
     let (missing, is_slack) = first_look(alloc, scale, choice, prices, problem.arcs())?;
-    check_picks(alloc, problem, cost, choice, prices, missing)?;
+    check_picks(alloc, problem, cost, choice, missing)?;
     check_slack(alloc, problem, choice, prices, is_slack)?;
     check_left_over(alloc, choice, prices)
 }
@@ -179,7 +177,7 @@ fn check_bracket(
         return Err(CertRefused::WrongSize);
     }
     let missing = missing_person(alloc, choice, problem.arcs())?;
-    check_picks(alloc, problem, cost, choice, prices, missing)?;
+    check_picks(alloc, problem, cost, choice, missing)?;
     check_bound(alloc, problem, lower, prices)
 }
 

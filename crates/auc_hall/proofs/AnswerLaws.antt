@@ -12,7 +12,7 @@ use Rattle.auc_hall.specs.Assignment.{number_of, IsRowAssignment}
 use Rattle.auc_hall.specs.HallSet.{IsRowHallSet}
 use Rattle.auc_hall.specs.Partial.{pick}
 use Rattle.auc_hall.specs.Matched.{IsPlaced, IsMatched}
-use Rattle.auc_hall.specs.Search.{WasSeen, AreKnown, AreSeen, IsTrail, AreWalked, IsSearch}
+use Rattle.auc_hall.specs.Search.{WasSeen, AreKnown, AreSeen, IsTrail, AreWalked}
 use Rattle.auc_hall.specs.Chosen.{places, chosen, AreReached, ArePersons}
 use Rattle.auc_hall.proofs.QueueLaws.{blank, entry, get_kept, get_pushed, get_cases, get_front}
 use Rattle.auc_hall.proofs.FlagLaws.{count_set, count_none, seen_kept, seen_within, no_flag, place_only, place_all, length-places, places_rise}
@@ -130,9 +130,7 @@ done_more before choice queue person done kept first there starts placed i lt = 
   | inr n ↦ kept i (done i (omega (arith, n)))
 ]
 
--- a search knows its persons, by the queue as it is named
-pub search_same : (t : Table) (choice : List (Option RowArc)) (holder : List (Option ℕ)) (queue named : List Reached) (seen : List Bool) → named ≡ queue → IsSearch t choice holder queue seen → IsSearch t choice holder named seen
-search_same t choice holder queue named seen e s = subst (λ (q : List Reached). IsSearch t choice holder q seen) (sym e) s
-
-pub walked_same : (t : Table) (queue named : List Reached) (seen : List Bool) → named ≡ queue → AreWalked t queue seen (length queue) → AreWalked t named seen (length named)
-walked_same t queue named seen e w = subst (λ (q : List Reached). AreWalked t q seen (length q)) (sym e) w
+-- what was walked, by the queue and the flags as they are named
+pub walked_same : (t : Table) (queue named : List Reached) (seen flags : List Bool) → named ≡ queue → flags ≡ seen → AreWalked t queue seen (length queue) → AreWalked t named flags (length named)
+walked_same t queue named seen flags e f w =
+    subst (λ (q : List Reached). AreWalked t q flags (length q)) (sym e) (subst (λ (x : List Bool). AreWalked t queue x (length queue)) (sym f) w)

@@ -1,5 +1,5 @@
 -- The exchange along a path.
-use Rattle.std.proofs.Common.{◌≡◌, ℕ, ◌<◌, ◌≤◌, List, length, set, Option, Some, None, refl, sym, ap, subst, ◌∙◌, arith, Contains}
+use Rattle.std.proofs.Common.{◌≡◌, ℕ, ◌<◌, ◌≤◌, List, length, get_or, set, Option, Some, None, refl, sym, ap, subst, ◌∙◌, arith, Contains}
 use Rattle.std.specs.List.{slice_get}
 use Rattle.std.proofs.lemmas.List.{length-set}
 use Rattle.std.proofs.lemmas.Option.{same_Some}
@@ -7,11 +7,12 @@ use Rattle.auc_graph.specs.declared.rows.RowArc.{RowArc}
 use Rattle.auc_graph.specs.Table.{Table, row_of}
 use Rattle.auc_hall.specs.declared.search.Reached.{Reached}
 use Rattle.auc_hall.specs.Partial.{pick}
-use Rattle.auc_hall.specs.Matched.{holder_of, IsPlaced, IsMatched}
-use Rattle.auc_hall.specs.Search.{HasArc, IsTrail, Starts}
+use Rattle.auc_hall.specs.Matched.{holder_of, AreTied, IsPlaced, IsMatched}
+use Rattle.auc_hall.specs.Search.{HasArc, HoldsNothing, IsAugmentingPath, IsTrail}
 use Rattle.auc_hall.specs.Completion.{IsExchange}
 use Rattle.auc_hall.specs.Completion.IsExchange.{takes_free, takes_over}
 use Rattle.auc_hall.proofs.Options.{read_set, read_unset, is_within, other_place, same_read}
+use Rattle.auc_hall.proofs.QueueLaws.{blank, entry, in_queue}
 use Rattle.auc_hall.proofs.MatchedLaws.{moved, placed, kept_set, untaken}
 
 -- The invariant of the exchange: the partial assignment holds at each step, and the arc at hand leads to a free object.
@@ -26,18 +27,22 @@ pub record IsUnderWay (t : Table) (queue : List Reached) (before choice : List (
   pub kept : (i : ℕ) → IsPlaced before i → IsPlaced choice i
   pub going : (after : List (Option RowArc)) → IsExchange t after choice arc.object → IsExchange t after before began
 
-pub under_way : (t : Table) (queue : List Reached) (choice : List (Option RowArc)) (holder : List (Option ℕ)) (at : ℕ) (arc : RowArc) → IsMatched t choice holder → IsTrail t holder queue → Starts queue choice → HasArc t queue at arc → holder_of holder arc.object ≡ None → arc.object < length holder
+unplaced : (choice : List (Option RowArc)) (holder : List (Option ℕ)) (i : ℕ) → AreTied choice holder → HoldsNothing holder i → (o : Option RowArc) → pick choice i ≡ o → pick choice i ≡ None
+unplaced choice holder i tied free None is = is
+unplaced choice holder i tied free (Some a) is = absurd (free a.object (tied.taken i a is))
+
+pub under_way : (t : Table) (queue : List Reached) (choice : List (Option RowArc)) (holder : List (Option ℕ)) (at : ℕ) (arc : RowArc) → IsAugmentingPath t choice holder queue at arc
     → IsUnderWay t queue choice choice holder arc.object at arc
-under_way t queue choice holder at arc m trail s has free room =
+under_way t queue choice holder at arc path =
     record {
-      matched = m;
-      has = has;
-      free = free;
-      room = room;
-      held = λ k e h up le. trail.held k e h up;
+      matched = path.matched;
+      has = path.out.has;
+      free = path.out.free;
+      room = path.out.room;
+      held = λ k e h up le. path.trail.held k e h up;
       first = λ e h.
-          let same : s.by ≡ e = same_Some s.by e (sym s.there ∙ h) in
-          ap (λ (r : Reached). pick choice r.person) (sym same) ∙ s.free;
+          let same : path.starts.by ≡ e = same_Some path.starts.by e (sym path.starts.there ∙ h) in
+          unplaced choice holder e.person path.matched.tied (subst (λ (r : Reached). HoldsNothing holder r.person) same path.starts.free) (pick choice e.person) refl;
       kept = λ i x. x;
       going = λ after x. x;
     }
@@ -73,9 +78,12 @@ pub record IsExchanged (t : Table) (queue : List Reached) (before choice : List 
   pub kept : (i : ℕ) → IsPlaced before i → IsPlaced choice i
   pub exchange : IsExchange t choice before began
 
-pub ends : (t : Table) (queue : List Reached) (before choice : List (Option RowArc)) (holder first_holder : List (Option ℕ)) (began at : ℕ) (arc : RowArc) (e : Reached) → IsUnderWay t queue before choice holder began at arc → IsTrail t first_holder queue → at ≡ 0 → slice_get queue 0 ≡ Some e
-    → IsExchanged t queue before (set choice e.person (Some arc)) (set holder arc.object (Some e.person)) began
-ends t queue before choice holder first_holder began at arc e w trail zero_at h =
+pub ends : (t : Table) (queue : List Reached) (before choice : List (Option RowArc)) (holder first_holder : List (Option ℕ)) (began at : ℕ) (arc : RowArc) → IsUnderWay t queue before choice holder began at arc → IsTrail t first_holder queue → at ≡ 0
+    → IsExchanged t queue before (set choice (get_or queue 0 blank).person (Some arc)) (set holder arc.object (Some (get_or queue 0 blank).person)) began
+ends t queue before choice holder first_holder began at arc w trail zero_at =
+    let e = get_or queue 0 blank in
+    let some : 0 < length queue = omega (arith, in_queue t queue at arc w.has) in
+    let h : slice_get queue 0 ≡ Some (get_or queue 0 blank) = entry queue 0 some in
     let same : w.has.by ≡ e = same_Some w.has.by e (sym w.has.there ∙ ap (λ (n : ℕ). slice_get queue n) zero_at ∙ h) in
     let his : Contains (row_of t e.person) arc = subst (λ (r : Reached). Contains (row_of t r.person) arc) same w.has.own in
     let p_in : e.person < length choice = omega (arith, trail.within 0 e h, w.matched.persons) in

@@ -6,6 +6,7 @@ use Rattle.std.proofs.lemmas.Option.{none-some, same_Some}
 use Rattle.auc_graph.specs.declared.rows.RowArc.{RowArc}
 use Rattle.auc_graph.specs.Table.{Table, row_of}
 use Rattle.auc_hall.specs.Matched.{holder_of, IsPlaced, AreTied, IsMatched}
+use Rattle.auc_hall.specs.Search.{AreHolders, HoldsNothing}
 use Rattle.auc_hall.specs.Completion.{IsUntaken}
 use Rattle.auc_hall.proofs.Options.{read_set, read_unset, is_within, other_place, same_read}
 
@@ -113,3 +114,16 @@ kept_set choice p a p_in i x = elim (cases_eq i p) [
 -- no person has the arc of an object without a holder
 pub untaken : (t : Table) (choice : List (Option RowArc)) (holder : List (Option ℕ)) (j : ℕ) → IsMatched t choice holder → holder_of holder j ≡ None → IsUntaken choice j
 untaken t choice holder j m free i b h e = none-some i (sym free ∙ ap (λ (k : ℕ). get_or holder k None) (sym e) ∙ m.tied.taken i b h)
+
+pub holders_of : (t : Table) (choice : List (Option RowArc)) (holder : List (Option ℕ)) → IsMatched t choice holder → AreHolders t holder
+holders_of t choice holder m = record {
+  objects = m.objects;
+  within = λ j i h. let b = m.tied.held j i h in omega (arith, is_within choice i b.0 b.1, m.persons);
+  once = λ j k i hj hk.
+      let b = m.tied.held j i hj in
+      let d = m.tied.held k i hk in
+      sym b.2 ∙ ap (λ (a : RowArc). a.object) (same_read choice i i b.0 d.0 b.1 d.1 refl) ∙ d.2;
+}
+
+pub holds_nothing : (choice : List (Option RowArc)) (holder : List (Option ℕ)) (i : ℕ) → AreTied choice holder → get_or choice i None ≡ None → HoldsNothing holder i
+holds_nothing choice holder i tied free j h = let b = tied.held j i h in none-some b.0 (sym free ∙ b.1)

@@ -1,6 +1,6 @@
 //! The completion of a partial assignment.
 
-ghost use Rattle.std.specs.Prelude.{◌≡◌, ◌<◌, ◌^◌, ℕ, length, map, false, slice_index_or, IfOk};
+ghost use Rattle.std.specs.Prelude.{◌≡◌, map, IfOk};
 ghost use Rattle.auc_hall.specs.Assignment.{number_of};
 ghost use Rattle.auc_hall.specs.Partial.{IsFor};
 ghost use Rattle.auc_hall.specs.Matching.{IsMatching};
@@ -12,7 +12,7 @@ use crate::exchange::exchange;
 use crate::hall_set::hall_set;
 use crate::matching::Matching;
 use crate::partial::Partial;
-use crate::search::search;
+use crate::search::Search;
 use auc_graph::{Indices, RowArc, Rows};
 use std::alloc::{AllocError, Global};
 
@@ -32,35 +32,32 @@ fn numbers_of(alloc: Global, choice: &[Option<RowArc>]) -> Result<Vec<u32>, Allo
     Ok(out)
 }
 
-/// `complete`, over the arcs of the persons and the holders of the objects. No object is marked in `seen`, and no arc
-/// was scanned.
+/// `complete`, over the arcs of the persons and the holders of the objects.
 fn complete_parts(
     alloc: Global,
     rows: &Rows,
     choice: &mut [Option<RowArc>],
     holder: &mut [Option<u32>],
-    seen: &mut [bool],
-    scanned: &mut [usize],
 ) -> Result<Matching, AllocError>
-    requires matched { IsMatched rows.now choice.old holder.old }
-    requires seen { length seen.old ≡ rows.now.objects }
-    requires none { (j : ℕ) → slice_index_or seen.old j false ≡ false }
-    requires few { length seen.old < 2 ^ 32 }
-    requires scanned { length scanned.old ≡ length rows.now.rows }
+    requires { IsMatched rows.now choice.old holder.old }
     ensures matching { IfOk result (IsMatching rows.now) }
     ensures grown { IfOk result (HasGrown rows.now choice.old) }
 {
-    let mut queue = Vec::with_capacity(alloc, rows.persons() as usize)?;
+    let mut search = Search {
+        seen: vec![in alloc; false; rows.objects() as usize]?,
+        scanned: vec![in alloc; 0; rows.persons() as usize]?,
+        queue: Vec::with_capacity(alloc, rows.persons() as usize)?,
+    };
     for person in 0..rows.persons() {
         if choice[person as usize].is_some() {
             continue;
         }
-        match search(rows, choice, holder, seen, scanned, &mut queue, person)? {
+        match search.find(rows, holder, person)? {
             None => {
-                return hall_set(alloc, rows, seen, queue.as_slice());
+                return hall_set(alloc, rows, search.seen.as_slice(), search.queue.as_slice());
             }
             Some(found) => {
-                exchange(rows, choice, holder, queue.as_slice(), found);
+                exchange(choice, holder, search.queue.as_slice(), found);
             }
         }
     }
@@ -91,14 +88,5 @@ pub fn complete(alloc: Global, rows: &Rows, partial: Partial) -> Result<Matching
     ensures grown { IfOk result (HasGrown rows.now partial.choice) }
 {
     let (mut choice, mut holder) = partial.into_parts();
-    let mut seen = vec![in alloc; false; rows.objects() as usize]?;
-    let mut scanned = vec![in alloc; 0; rows.persons() as usize]?;
-    complete_parts(
-        alloc,
-        rows,
-        choice.as_mut_slice(),
-        holder.as_mut_slice(),
-        seen.as_mut_slice(),
-        scanned.as_mut_slice(),
-    )
+    complete_parts(alloc, rows, choice.as_mut_slice(), holder.as_mut_slice())
 }

@@ -1,7 +1,6 @@
 //! The scan for a free object among the arcs of one person.
 
 ghost use Rattle.std.specs.Prelude.{◌≡◌, ◌<◌, length, IfSome};
-ghost use Rattle.auc_graph.specs.Table.{row_of};
 ghost use Rattle.auc_hall.specs.Search.{IsFreeArc};
 
 use auc_graph::{RowArc, Rows};
@@ -18,21 +17,23 @@ pub(crate) fn free_arc(
     person: u32,
 ) -> Option<RowArc>
     requires person { person < length rows.now.rows }
-    requires scanned { length scanned.old ≡ length rows.now.rows }
     requires objects { length holder.now ≡ rows.now.objects }
-    ensures scanned { length scanned.new ≡ length scanned.old }
-    ensures free { IfSome result (λ a. IsFreeArc rows.now holder.now person a) }
+    ensures { IfSome result (λ a. IsFreeArc rows.now holder.now person a) }
 {
     let row = rows.row(person);
-    let mut at = scanned[person as usize];
+    let person = person as usize;
+    if person >= scanned.len() {
+        return None;
+    }
+    let mut at = scanned[person];
     while at < row.len() {
         let arc = row[at];
         if holder[arc.object as usize].is_none() {
-            scanned[person as usize] = at;
+            scanned[person] = at;
             return Some(arc);
         }
         at += 1;
     }
-    scanned[person as usize] = at;
+    scanned[person] = at;
     None
 }

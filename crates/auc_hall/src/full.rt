@@ -1,38 +1,37 @@
 //! Whether there is a full assignment: a search proposes one, and the proposal is checked.
 
-ghost use Rattle.std.specs.Prelude.{◌≡◌, ◌<◌, IsTrue, IfOk, length};
+ghost use Rattle.std.specs.Prelude.{◌<◌, IsTrue, IfOk, length};
 ghost use Rattle.auc_hall.specs.Full.{HasRowAssignment, HoldsOne};
 
-use crate::labels::{NO_PLACE, search_by_labels};
+use crate::labels::Labels;
 use auc_graph::Rows;
 use std::alloc::{AllocError, Global};
 
-/// Whether the arc at this place of the person's row leads to an object that the person holds.
-fn holds_at(rows: &Rows, holders: &[Option<u32>], person: u32, place: u32) -> bool
-    requires person { person < length rows.now.rows }
-    requires holders { length holders.now ≡ rows.now.objects }
-    ensures { IsTrue result → HoldsOne rows.now holders.now person }
+/// Whether the arc at the person's place of the row leads to an object that the person holds.
+fn holds_at(rows: &Rows, proposal: &Labels<'_>, person: u32) -> bool
+    requires { person < length rows.now.rows }
+    ensures { IsTrue result → HoldsOne rows.now proposal.now.holders.items person }
 {
     let row = rows.row(person);
-    let place = place as usize;
-    if place >= row.len() {
+    let Some(place) = proposal.places.get(person as usize) else {
         return false;
-    }
-    match holders[row[place].object as usize] {
-        Some(holder) => holder == person,
-        None => false,
+    };
+    let Some(arc) = row.get(*place as usize) else {
+        return false;
+    };
+    match proposal.holders.get(arc.object as usize) {
+        Some(Some(holder)) => *holder == person,
+        _ => false,
     }
 }
 
 /// Whether each person holds an object by the arc at the person's place of the row. No object has two holders, so no
 /// two persons share one.
-fn hold_all(rows: &Rows, holders: &[Option<u32>], places: &[u32]) -> bool
-    requires holders { length holders.now ≡ rows.now.objects }
-    requires places { length places.now ≡ length rows.now.rows }
+fn hold_all(rows: &Rows, proposal: &Labels<'_>) -> bool
     ensures { IsTrue result → HasRowAssignment rows.now }
 {
     for person in 0..rows.persons() {
-        if !holds_at(rows, holders, person, places[person as usize]) {
+        if !holds_at(rows, proposal, person) {
             return false;
         }
     }
@@ -54,18 +53,6 @@ fn hold_all(rows: &Rows, holders: &[Option<u32>], places: &[u32]) -> bool
 pub fn has_full_matching(alloc: Global, rows: &Rows) -> Result<bool, AllocError>
     ensures { IfOk result (λ found. IsTrue found → HasRowAssignment rows.now) }
 {
-    let persons = rows.persons() as usize;
-    let objects = rows.objects() as usize;
-    let mut labels = vec![in alloc; 0; objects]?;
-    let mut counts = vec![in alloc; 0; persons + 1]?;
-    let mut holders = vec![in alloc; None; objects]?;
-    let mut places = vec![in alloc; NO_PLACE; persons]?;
-    let is_placed = search_by_labels(
-        rows,
-        labels.as_mut_slice(),
-        counts.as_mut_slice(),
-        holders.as_mut_slice(),
-        places.as_mut_slice(),
-    );
-    Ok(is_placed && hold_all(rows, holders.as_slice(), places.as_slice()))
+    let mut proposal = Labels::new(alloc, rows)?;
+    Ok(proposal.search() && hold_all(rows, &proposal))
 }

@@ -1,6 +1,6 @@
 //! The bid of a person at the present prices.
 
-ghost use Rattle.std.specs.Prelude.{◌≡◌, ◌*◌, ◌^◌, pos, ◌+ℤ◌, ◌-ℤ◌, ◌*ℤ◌, ◌≤ℤ◌, ◌<ℤ◌, All, IfNone, IfSome};
+ghost use Rattle.std.specs.Prelude.{◌≡◌, ◌*◌, ◌^◌, pos, ◌+ℤ◌, ◌-ℤ◌, ◌*ℤ◌, ◌≤ℤ◌, ◌<ℤ◌, ℕ, All, IfNone, IfSome};
 ghost use Rattle.std.specs.Prelude.{length};
 ghost use Rattle.auc_graph.specs.Dual.{price_at};
 ghost use Rattle.auc_graph.specs.Price.{IsPrice};
@@ -75,27 +75,24 @@ fn amount_of(least: i64, margin: i64) -> i64
     }
 }
 
-/// A person's bid at these prices, indexed by object. It is on the best arc, and so high that the arc's value is then
-/// eps above the second-best value, but no higher than the greatest price. None where even the least bid would be
-/// above that: the price plus eps. `eps` and `prices` are in scaled costs.
+/// The bid of a person whose best arc this is at these prices, indexed by object. It is on that arc, and so high that
+/// the arc's value is then eps above the second-best value, but no higher than the greatest price. None where even the
+/// least bid would be above that: the price plus eps. `eps` and `prices` are in scaled costs.
 ///
 /// O(1): the best arc is found before. The method is the bid of the auction algorithm (Bertsekas, 1979).
 #[inline(always)]
-pub(crate) fn bid_of(
-    rows: &FlatRows,
-    eps: i64,
-    _person: u32,
-    best: Best,
-    prices: &[i64],
-) -> Option<Bid>
+pub(crate) fn bid_of(rows: &FlatRows, eps: i64, best: Best, prices: &[i64]) -> Option<Bid>
     requires eps { IsEps eps }
     requires many { length prices.now ≡ rows.now.objects }
     requires prices { All IsPrice prices.now }
-    requires best { IsBest (short_value (scale_in rows.now) prices.now) (flat_row_of rows.now _person) best }
-    ensures raise { IfSome result
-        (λ b. IsRaise (scale_in rows.now) eps prices.now (flat_row_of rows.now _person) b.arc b.amount) }
-    ensures offer { IfSome result (λ b. IsOffer (scale_in rows.now) rows.now.spread eps prices.now
-        (flat_row_of rows.now _person) b.arc b.amount) }
+    requires best { (person : ℕ) × IsBest (short_value (scale_in rows.now) prices.now)
+        (flat_row_of rows.now person) best }
+    ensures raise { (person : ℕ) → IsBest (short_value (scale_in rows.now) prices.now)
+        (flat_row_of rows.now person) best → IfSome result
+        (λ b. IsRaise (scale_in rows.now) eps prices.now (flat_row_of rows.now person) b.arc b.amount) }
+    ensures offer { (person : ℕ) → IsBest (short_value (scale_in rows.now) prices.now)
+        (flat_row_of rows.now person) best → IfSome result
+        (λ b. IsOffer (scale_in rows.now) rows.now.spread eps prices.now (flat_row_of rows.now person) b.arc b.amount) }
     ensures within { IfSome result (λ b. b.amount ≤ℤ pos (2 ^ 61)) }
     ensures above { IfNone result (pos (2 ^ 61) <ℤ (price_at prices.now best.arc.object +ℤ eps)) }
 {

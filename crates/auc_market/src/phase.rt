@@ -1,9 +1,7 @@
 //! A phase: the persons who have no object bid in order, two in turn, until each has one. It goes in slices. Before
 //! each slice the watch is asked whether the run goes on.
 
-ghost use Rattle.std.specs.Prelude.{true, false, ◌≡◌, ◌≢◌, ◌-◌, ◌<◌, ◌^◌, IfErr, IfOk, IfNone, IfSome};
-ghost use Rattle.auc_claim.specs.declared.reason.Reason.{Reason};
-ghost use Rattle.auc_market.specs.declared.ending.Ending.{Ending};
+ghost use Rattle.std.specs.Prelude.{true, ◌≡◌, ◌-◌, ◌<◌, ◌^◌, IfErr, IfOk, IfNone, IfSome};
 ghost use Rattle.auc_market.specs.Halts.{IsHalt};
 ghost use Rattle.auc_market.specs.Position.{IsPlayed, IsSlice, IsTried};
 
@@ -13,23 +11,6 @@ use crate::market::Market;
 use crate::pace::Pace;
 use crate::watch::{Progress, Watch, may_go_on};
 use auc_claim::Reason;
-
-/// Whether bids have run out. Any other ending of a slice is also the ending of its phase.
-fn ran_out(ending: Ending) -> bool
-    ensures yes { result ≡ true → ending ≡ Ending.Stopped Reason.Bids }
-    ensures no { result ≡ false → ending ≢ Ending.Stopped Reason.Bids }
-{
-    match ending {
-        Ending::Sold => false,
-        Ending::Stopped(reason) => match reason {
-            Reason::Bids => true,
-            Reason::Ceiling => false,
-            Reason::Posts => false,
-            Reason::Trail => false,
-            Reason::Mail => false,
-        },
-    }
-}
 
 impl<'a> Market<'a> {
     /// Plays a slice of a phase, of at most `bids` bids, in which the persons who hold nothing bid.
@@ -83,7 +64,8 @@ impl<'a> Market<'a> {
             }
             let slice = left.min(pace.slice.max(1));
             let ending = self.play_slice(slice, pace)?;
-            if !ran_out(ending) {
+            // Any other ending of a slice is also the ending of its phase.
+            if ending != Ending::Stopped(Reason::Bids) {
                 return Ok(ending);
             }
             left -= slice;
@@ -117,7 +99,7 @@ impl<'a> Market<'a> {
             return Ok(None);
         }
         let ending = self.play(bids.min(few), pace, watch)?;
-        if few < bids && ran_out(ending) && !watch.has_said_no() {
+        if few < bids && ending == Ending::Stopped(Reason::Bids) && !watch.has_said_no() {
             return Ok(None);
         }
         Ok(Some(ending))

@@ -41,7 +41,7 @@ impl Holdings {
     {
         let prices = self.prices.as_slice();
         let best = lists.best(rows, rows.scale(), person, prices);
-        let Some(bid) = bid_of(rows, eps, person, best, prices) else {
+        let Some(bid) = bid_of(rows, eps, best, prices) else {
             return None;
         };
         Some(self.award(person, bid))

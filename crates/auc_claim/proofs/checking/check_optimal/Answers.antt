@@ -1,4 +1,4 @@
-use Rattle.std.proofs.Common.{◌≡◌, ◌∷◌, [], None, w64}
+use Rattle.std.proofs.Common.{rules, ◌≡◌, ◌∷◌, [], None, w64}
 use Rattle.std.specs.Prelude.{FitsSigned}
 use Rattle.std.proofs.lemmas.Int.{to_z-of_z}
 use Rattle.auc_claim.specs.declared.cert.CertParts.TheVariants.{Optimal}
@@ -14,7 +14,7 @@ check_slack-requires-clause-told c = λ told.
 pub returns-clause-exact : goal.returns-clause-exact
 returns-clause-exact c =
     let fits : FitsSigned w64 c.args.cost = c.ranges.cost in
-    let choice : first_of (choice_faults c.args.problem.now c.args.cost c.args.choice.now c.args.prices.now) ≡ None = simp to_z-of_z at c.in_ok-check_picks.ensures.exact in
+    let choice : first_of (choice_faults c.args.problem.now c.args.cost c.args.choice.now c.args.prices.now) ≡ None = simp to_z-of_z at (c.in_ok-check_picks.ensures.exact c.args.prices.now (search rules)) in
     let slack : first_of (slack_fault c.args.problem.now c.args.choice.now c.args.prices.now ∷ []) ≡ None = c.in_ok-check_slack.ensures.exact in
     verdict_behind c.check_left_over.result (choice_faults c.args.problem.now c.args.cost c.args.choice.now c.args.prices.now) (slack_fault c.args.problem.now c.args.choice.now c.args.prices.now ∷ left_over_fault c.args.choice.now c.args.prices.now ∷ []) choice
     (verdict_second c.check_left_over.result (slack_fault c.args.problem.now c.args.choice.now c.args.prices.now) (left_over_fault c.args.choice.now c.args.prices.now) slack c.check_left_over.ensures)

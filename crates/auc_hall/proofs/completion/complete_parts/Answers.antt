@@ -1,13 +1,13 @@
-use Rattle.std.proofs.Common.{get_or, length, None, false, arith, refl, sym, inl, inr, subst, ◌∙◌}
-use Rattle.std.proofs.lemmas.Bool.{cases_eq, both_ways}
+use Rattle.std.proofs.Common.{get_or, None, arith, refl, sym, inl, inr, subst, ◌∙◌}
+use Rattle.std.proofs.lemmas.Bool.{cases_eq}
 use Rattle.auc_hall.specs.Matched.{IsPlaced}
 use Rattle.auc_hall.specs.Chosen.{chosen}
-use Rattle.auc_hall.specs.Search.{IsSearch}
+use Rattle.auc_hall.specs.Search.{IsAugmentingPath}
 use Rattle.auc_hall.specs.Completion.IsGrown.{stays}
 use Rattle.auc_hall.proofs.CompletionLaws.{grown_by, hall_answers}
-use Rattle.auc_hall.proofs.AnswerLaws.{is_assignment, done_more, persons_of, search_same, walked_same}
+use Rattle.auc_hall.proofs.AnswerLaws.{is_assignment, done_more, walked_same}
+use Rattle.auc_hall.proofs.MatchedLaws.{holders_of}
 use Rattle.auc_hall.proofs.Options.{some_of}
-use Rattle.auc_hall.proofs.completion.complete_parts.Goals.{After-as_slice}
 use Rattle.auc_hall.proofs.completion.complete_parts.Goals as goal
 
 pub loop-person-preserved-then-is_some : goal.loop-person-preserved-then-is_some
@@ -19,37 +19,7 @@ loop-person-preserved-then-is_some c =
         | inr n ↦ c.loop-person.invariant.done i (omega (arith, n))
       ];
       seen = c.loop-person.invariant.seen;
-      marks = c.loop-person.invariant.marks;
       grown = c.loop-person.invariant.grown;
-      scanned = c.loop-person.invariant.scanned;
-    }
-
-found : (c : After-as_slice) → IsSearch c.args.rows.now c.loop-person.choice c.loop-person.holder c.as_slice.result.now c.search.new.seen
-found c = search_same c.args.rows.now c.loop-person.choice c.loop-person.holder c.search.new.queue.items c.as_slice.result.now c.search.new.seen c.as_slice.ensures.value c.in_ok-search.ensures.search
-
-pub hall_set-requires-clause-persons : goal.hall_set-requires-clause-persons
-hall_set-requires-clause-persons c = persons_of c.args.rows.now c.loop-person.holder c.as_slice.result.now (length c.args.rows.now.rows) (found c).trail refl
-
-pub hall_set-requires-clause-known : goal.hall_set-requires-clause-known
-hall_set-requires-clause-known c = (found c).trail.known
-
-pub hall_set-requires-clause-seen : goal.hall_set-requires-clause-seen
-hall_set-requires-clause-seen c = (found c).marks
-
-pub hall_set-requires-clause-walked : goal.hall_set-requires-clause-walked
-hall_set-requires-clause-walked c =
-    walked_same c.args.rows.now c.search.new.queue.items c.as_slice.result.now c.search.new.seen c.as_slice.ensures.value (rw c.in-None.is at c.in_ok-search.ensures.closed)
-
-pub loop-person-preserved : goal.loop-person-preserved
-loop-person-preserved c =
-    let s = c.in_ok-search.ensures.search.starts in
-    record {
-      matched = c.exchange.ensures.matched;
-      done = done_more c.loop-person.choice c.exchange.new.choice c.search.new.queue.items c.loop-person.person c.loop-person.invariant.done c.exchange.ensures.kept s.by s.there c.in_ok-search.ensures.first (λ e h. c.exchange.ensures.first e (rw c.as_slice-in-Some.ensures.value h));
-      seen = c.in_ok-search.ensures.search.marks.size;
-      marks = c.in_ok-search.ensures.search.marks.behind;
-      grown = λ after x. c.loop-person.invariant.grown after (grown_by c.exchange.ensures.exchange x);
-      scanned = c.search.ensures.scanned ∙ c.loop-person.invariant.scanned;
     }
 
 pub returns-clause-matching : goal.returns-clause-matching
@@ -66,15 +36,24 @@ returns-clause-grown c = record {
   numbers = c.new.ensures ∙ c.in_ok-numbers_of.ensures;
 }
 
-pub search-requires-clause-marks : goal.search-requires-clause-marks
-search-requires-clause-marks c = c.loop-person.invariant.marks
+pub find-requires-clause-holders : goal.find-requires-clause-holders
+find-requires-clause-holders c = holders_of c.args.rows.now c.loop-person.choice c.loop-person.holder c.loop-person.invariant.matched
 
-pub loop-person-init : goal.loop-person-init
-loop-person-init c = record {
-  matched = c.requires.matched;
-  done = λ i lt. absurd (omega arith);
-  seen = c.requires.seen;
-  marks = λ j h. absurd (both_ways (get_or c.args.seen.now j false) (c.requires.none j) h);
-  grown = λ after x. x;
-  scanned = c.requires.scanned;
-}
+pub hall_set-requires-clause-walked : goal.hall_set-requires-clause-walked
+hall_set-requires-clause-walked c = walked_same c.args.rows.now c.find.new.self.queue.items c.as_slice-in-None.result.now c.find.new.self.seen.items c.as_slice.result.now c.as_slice-in-None.ensures.value c.as_slice.ensures.value (rw c.in-None.is at c.in_ok-find.ensures.closed)
+
+pub loop-person-preserved : goal.loop-person-preserved
+loop-person-preserved c =
+    let search = c.in_ok-find.ensures.search in
+    let path : IsAugmentingPath c.args.rows.now c.loop-person.choice c.loop-person.holder c.as_slice-in-Some.result.now c.in-Some.found.at c.in-Some.found.arc = rw c.as_slice-in-Some.ensures.value (record {
+      matched = c.loop-person.invariant.matched;
+      trail = search.trail;
+      starts = search.starts;
+      out = rw c.in-Some.is at c.in_ok-find.ensures.found;
+    }) in
+    record {
+      matched = c.exchange.ensures.matched c.args.rows.now path;
+      done = done_more c.loop-person.choice c.exchange.new.choice c.find.new.self.queue.items c.loop-person.person c.loop-person.invariant.done c.exchange.ensures.kept search.starts.by search.starts.there c.in_ok-find.ensures.first (λ e h. c.exchange.ensures.first e (rw c.as_slice-in-Some.ensures.value h));
+      seen = search.marks.size;
+      grown = λ after x. c.loop-person.invariant.grown after (grown_by (c.exchange.ensures.exchange c.args.rows.now path) x);
+    }

@@ -19,13 +19,13 @@ raise_here : (c : After-award-arg-1) → IsRaise (scale_in c.args.rows.now) c.ar
 raise_here c =
     let f1 : FitsSigned w64 c.args.eps = c.ranges.eps in
     let f2 : FitsSigned w64 c.in-Some.bid.amount = search rules in
-    rw c.as_slice-prices.ensures.value at (simp to_z-of_z at c.in-Some.ensures.raise)
+    rw c.as_slice-prices.ensures.value at (simp to_z-of_z at (c.in-Some.ensures.raise c.args.person (search rules)))
 
 offer_here : (c : After-award-arg-1) → IsOffer (scale_in c.args.rows.now) c.args.rows.now.spread c.args.eps c.args.self.now.prices.items (flat_row_of c.args.rows.now c.args.person) c.in-Some.bid.arc c.in-Some.bid.amount
 offer_here c =
     let f1 : FitsSigned w64 c.args.eps = c.ranges.eps in
     let f2 : FitsSigned w64 c.in-Some.bid.amount = search rules in
-    rw c.as_slice-prices.ensures.value at (simp to_z-of_z at c.in-Some.ensures.offer)
+    rw c.as_slice-prices.ensures.value at (simp to_z-of_z at (c.in-Some.ensures.offer c.args.person (search rules)))
 
 object_here : (c : After-award-arg-1) → c.in-Some.bid.arc.object < c.args.rows.now.objects
 object_here c = (All-contains (IsShort c.args.rows.now.objects) (flat_row_of c.args.rows.now c.args.person) c.in-Some.bid.arc (c.scale.ensures.sound.each c.args.person) (raise_here c).listed).object

@@ -1,4 +1,5 @@
-use Rattle.std.proofs.Common.{◌-◌, ◌≡◌, ◌∙◌, ◌≤◌, true, inl, inr, refl, rules, sym, subst}
+use Rattle.std.proofs.Common.{◌-◌, ◌≡◌, ◌≢◌, ◌∙◌, ◌≤◌, true, inl, inr, refl, rules, sym, subst}
+use Rattle.auc_claim.specs.declared.reason.Reason.{Reason}
 use Rattle.auc_market.specs.declared.ending.Ending.{Ending}
 use Rattle.auc_market.specs.Endings.{IsEnding}
 use Rattle.auc_market.specs.Position.{state_at}
@@ -13,9 +14,10 @@ pub loop-bids-preserved : goal.loop-bids-preserved
 loop-bids-preserved g c =
     let on : c.may_go_on.result ≡ true = search rules in
     let inv = c.loop-bids.invariant in
+    let out : c.in_ok-ending.ending ≡ Ending.Stopped Reason.Bids = search rules in
     let le : c.min-slice.result ≤ c.loop-bids.left = search rules in
     record {
-      spends = spends_slice c.args.bids c.loop-bids.left c.min-slice.result c.in_ok-ending.ending c.args.self.now c.loop-bids.self c.play_slice.new.self (c.if-not-ran_out.ensures.yes refl) le inv.spends c.in_ok-ending.ensures.slice;
+      spends = spends_slice c.args.bids c.loop-bids.left c.min-slice.result c.in_ok-ending.ending c.args.self.now c.loop-bids.self c.play_slice.new.self out le inv.spends c.in_ok-ending.ensures.slice;
       asked = c.may_go_on.ensures.yes on ∙ inv.asked;
     }
 
@@ -27,15 +29,16 @@ returns-then-not-may_go_on-clause-played g c = record {
   above = λ e. absurd cc;
 }
 
-pub returns-then-not-ran_out-clause-played : goal.returns-then-not-ran_out-clause-played
-returns-then-not-ran_out-clause-played g c =
+pub returns-then-ne-clause-played : goal.returns-then-ne-clause-played
+returns-then-ne-clause-played g c =
     let on : c.may_go_on.result ≡ true = search rules in
     let inv = c.loop-bids.invariant in
     let le : c.min-slice.result ≤ c.loop-bids.left = search rules in
     let old = c.args.self.now in
     let new = c.play_slice.new.self in
     let slice = c.in_ok-ending.ensures.slice in
-    let is = slice_ending c.args.bids c.loop-bids.left c.min-slice.result c.in_ok-ending.ending old c.loop-bids.self new c.law.ensures (c.if-not-ran_out.ensures.no refl) le inv.spends slice in
+    let other : c.in_ok-ending.ending ≢ Ending.Stopped Reason.Bids = search rules in
+    let is = slice_ending c.args.bids c.loop-bids.left c.min-slice.result c.in_ok-ending.ending old c.loop-bids.self new c.law.ensures other le inv.spends slice in
     record {
       tried = slice_tried c.args.bids c.loop-bids.left c.min-slice.result c.in_ok-ending.ending old c.loop-bids.self new c.law.ensures le inv.spends slice;
       sold = ending_sold old.table c.args.bids (state_at old) c.in_ok-ending.ending new.prices new.owns is;
@@ -47,7 +50,7 @@ pub returns-then-left-eq0-clause-played : goal.returns-then-left-eq0-clause-play
 returns-then-left-eq0-clause-played g c =
     let on : c.may_go_on.result ≡ true = search rules in
     let inv = c.loop-bids.invariant in
-    let out = c.if-not-ran_out.ensures.yes refl in
+    let out : c.in_ok-ending.ending ≡ Ending.Stopped Reason.Bids = search rules in
     let le : c.min-slice.result ≤ c.loop-bids.left = search rules in
     let old = c.args.self.now in
     let new = c.play_slice.new.self in

@@ -1,4 +1,4 @@
-use Rattle.auc_hall.proofs.labels.place.Given as goal
+use Rattle.auc_hall.proofs.labels.Labels.place.Given as goal
 
 abbrev pub decreases-loop-scans : goal.decreases-loop-scans
 decreases-loop-scans l = l.scans

@@ -176,11 +176,14 @@ static void want_few_allocations(void) {
     *(status == SIGDORF_OPTIMAL && more <= (double)alone - 5 && taken == 0 ? &passed : &failed) += 1;
 }
 
-/* Beside the caller's table a quarter more than it at most: without gaps, or with a gate. */
-static void want_little(const char *name, int is_match) {
+/* Beside the caller's table a quarter more than it at most: without gaps, with a gate, or twice one after the other. */
+static void want_little(const char *name, int is_match, int is_many) {
     enum { SIDE = 400 };
     static double costs[SIDE * SIDE];
-    static uint32_t chosen[SIDE], hall[SIDE];
+    static uint32_t chosen[2 * SIDE], hall[SIDE];
+    const sigdorf_table_f64 large = {SIDE, SIDE, costs, SIDE * SIDE, SIDE, 0.9}, twice[] = {large, large};
+    int32_t statuses[2];
+    sigdorf_found_f64 each[2];
     uint32_t state = 1;
     for (size_t k = 0; k < SIDE * SIDE; k++) {
         state = state * 1664525 + 1013904223;
@@ -190,9 +193,10 @@ static void want_little(const char *name, int is_match) {
     size_t before = bytes;
     const size_t count = SIDE * SIDE;
     const uint64_t bids = SIGDORF_USUAL_BIDS;
-    int32_t status = is_match ? sigdorf_match(SIDE, SIDE, costs, count, SIDE, 0.9, bids, chosen, SIDE, &found_f64)
-                              : sigdorf_solve_dense_f64(SIDE, SIDE, costs, count, SIDE, bids, chosen, SIDE, hall, SIDE,
-                                                        &found_f64);
+    int32_t status = is_many    ? sigdorf_match_many(twice, 2, bids, chosen, 2 * SIDE, statuses, 2, each, 2)
+                     : is_match ? sigdorf_match(SIDE, SIDE, costs, count, SIDE, 0.9, bids, chosen, SIDE, &found_f64)
+                                : sigdorf_solve_dense_f64(SIDE, SIDE, costs, count, SIDE, bids, chosen, SIDE, hall,
+                                                          SIDE, &found_f64);
     double share = (double)(most_bytes - before) / sizeof costs;
     printf("%s: %.2f of the table\n", name, share);
     *(status == SIGDORF_OPTIMAL && share <= 1.25 && bytes == before ? &passed : &failed) += 1;
@@ -215,8 +219,9 @@ int main(void) {
     refuse_each("match", match, SIGDORF_OPTIMAL);
     refuse_each_of_many();
     want_few_allocations();
-    want_little("solve of doubles", 0);
-    want_little("match", 1);
+    want_little("solve of doubles", 0, 0);
+    want_little("match", 1, 0);
+    want_little("match of many tables", 1, 1);
     refuse_each("check", check, SIGDORF_INVALID);
     refuse_each("check_hall", check_hall, SIGDORF_OPTIMAL);
     printf("%d passed, %d failed\n", passed, failed);

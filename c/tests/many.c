@@ -165,10 +165,10 @@ static void refusals(void) {
     FAULT(between->stride--, SIGDORF_SIZES, UNTOUCHED, UNTOUCHED);
     FAULT(between->stride = SIZE_MAX, SIGDORF_SIZES, UNTOUCHED, UNTOUCHED);
     FAULT(between->objects = UINT32_MAX, SIGDORF_SIZES, UNTOUCHED, UNTOUCHED);
-    g = around(2, (double[]){1, 2, 1, 4}, 5), g.bids = 0;
+    g = around(2, (double[]){0.1, 0.5, 0.5, 0.6}, 0.6), g.bids = 0;
     result t = call(&g);
     want("a limit", t.status == SIGDORF_SOME && t.statuses[1] == SIGDORF_BRACKET && t.found[1].kind == SIGDORF_BIDS, 1);
-    want("what it leaves", t.found[1].cost - t.found[1].gap <= 3 && t.found[1].cost >= 3, 1);
+    want("what it leaves", t.found[1].cost - t.found[1].gap <= 0.7 && t.found[1].cost >= 0.7, 1);
 }
 
 /* Of the whole call: nothing is written, and no table is looked at. */

@@ -108,7 +108,7 @@ def _matches(tables, limits, part, words):
 
 
 def _alone(number, table, limit, words):
-    """The Match of a table that is a fault, or no array that the extension takes."""
+    """The Match of a table that the extension doesn't take, or that is at fault."""
     try:
         if not isinstance(table, tuple):
             return match(table, limit, **words)

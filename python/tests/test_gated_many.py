@@ -178,11 +178,11 @@ class MatchMany(Limited):
             sigdorf.match_many(5, 1.0)
 
     def test_unsettled(self):
-        """A limit of the search ends it, where more than a table without bids is wanted."""
-        hard = numpy.array([[1, 2, 5], [1, 4, 9], [8, 3, 7]])
-        for table in (hard, hard / 8):
-            fault = self.assert_fault(sigdorf.Unsettled, "a limit ended the search", 65, [numpy.zeros((0, 2))] * 65 + [table], 100, bids=0)
-            self.assertFalse(fault.solution.is_optimal)
+        """Without bids nothing is refined."""
+        for table, limit in (([[0.1, 0.5], [0.5, 0.6]], 0.6), ([[0.4, 1.0], [0.4, 1.1]], 0.8)):
+            for form in (numpy.array(table), table):
+                fault = self.assert_fault(sigdorf.Unsettled, "a limit ended the search", 65, [numpy.zeros((0, 2))] * 65 + [form], limit, bids=0)
+                self.assertFalse(fault.solution.is_optimal)
 
     def test_threads(self):
         random = numpy.random.default_rng(6)

@@ -1,4 +1,5 @@
 /* The library's calls of doubles, over a table as it lies in memory: c/levels solves it by the proved calls. */
+#include <stdlib.h>
 #include <string.h>
 
 #include "levels.h"
@@ -76,15 +77,21 @@ static void write_found(const job *w, int status, uint32_t *choice, uint32_t *ha
 
 /* Solves a problem, unless one side has nobody, and writes what was found: the status. What is STRANGE isn't met by a
  * caller who keeps the duties; nothing is written then either. */
+static int32_t solve_in(workshop *shop, job *w, uint32_t *choice, uint32_t *hall, sigdorf_found_f64 *found) {
+    int status = !w->q.count ? SIGDORF_OPTIMAL : begin_job(w, shop, &OWN, 0) ? STRANGE : run(w);
+    write_found(w, status, choice, hall, found);
+    return status == STRANGE ? SIGDORF_MEMORY : status;
+}
+
+/* The same of a problem alone. */
 static int32_t solve(job *w, uint32_t *choice, uint32_t *hall, sigdorf_found_f64 *found) {
     workshop shop = {0};
     unsigned kept = begin_floats();
-    int status = !w->q.count ? SIGDORF_OPTIMAL : begin_job(w, &shop, &OWN, 0) ? STRANGE : run(w);
-    write_found(w, status, choice, hall, found);
+    int32_t status = solve_in(&shop, w, choice, hall, found);
     end_job(w);
     close_shop(&shop);
     end_floats(kept);
-    return status == STRANGE ? SIGDORF_MEMORY : status;
+    return status;
 }
 
 static job job_of(const double *costs, size_t rows, size_t columns, size_t stride, uint64_t bids) {
@@ -111,13 +118,61 @@ int32_t sigdorf_solve_dense_f64(uint32_t persons, uint32_t objects, const double
     return solve(&w, choice, hall_objects, found);
 }
 
-int32_t sigdorf_match(uint32_t persons, uint32_t objects, const double *costs, size_t costs_len, size_t stride,
-                      double gate, uint64_t bids, uint32_t *choice, size_t choice_len, sigdorf_found_f64 *found) {
-    if (choice_len != persons || !lies_within(persons, objects, costs_len, stride)) return SIGDORF_SIZES;
+/* Takes the problem of a match: SIGDORF_OPTIMAL, or the status of what can't be asked. */
+static int32_t take_match(job *w, const sigdorf_table_f64 *table, uint64_t bids, sigdorf_found_f64 *found) {
+    uint32_t persons = table->persons, objects = table->objects;
+    if (!lies_within(persons, objects, table->costs_len, table->stride)) return SIGDORF_SIZES;
     if (persons > MOST_SIDE) return refused(found, SIGDORF_PERSONS, 0);
     if (objects > MOST_SIDE - persons) return refused(found, SIGDORF_OBJECTS, 0);
-    if (!(gate - gate == 0)) return refused(found, SIGDORF_GATE, 0);
-    job w = job_of(costs, persons, objects, stride, bids);
-    w.q.limit = gate, w.q.has_limit = 1;
-    return solve(&w, choice, NULL, found);
+    if (!(table->gate - table->gate == 0)) return refused(found, SIGDORF_GATE, 0);
+    *w = job_of(table->costs, persons, objects, table->stride, bids);
+    w->q.limit = table->gate, w->q.has_limit = 1;
+    return SIGDORF_OPTIMAL;
+}
+
+int32_t sigdorf_match(uint32_t persons, uint32_t objects, const double *costs, size_t costs_len, size_t stride,
+                      double gate, uint64_t bids, uint32_t *choice, size_t choice_len, sigdorf_found_f64 *found) {
+    const sigdorf_table_f64 table = {persons, objects, costs, costs_len, stride, gate};
+    job w;
+    if (choice_len != persons) return SIGDORF_SIZES;
+    int32_t status = take_match(&w, &table, bids, found);
+    return status ? status : solve(&w, choice, NULL, found);
+}
+
+/* Whether tables have so many persons together. */
+static int have_together(const sigdorf_table_f64 *tables, size_t count, size_t persons) {
+    for (size_t k = 0; k < count; k++) {
+        if (tables[k].persons > persons) return 0;
+        persons -= tables[k].persons;
+    }
+    return !persons;
+}
+
+int32_t sigdorf_match_many(const sigdorf_table_f64 *tables, size_t tables_len, uint64_t bids, uint32_t *choice,
+                           size_t choice_len, int32_t *statuses, size_t statuses_len, sigdorf_found_f64 *found,
+                           size_t found_len) {
+    if (statuses_len != tables_len || found_len != tables_len || !have_together(tables, tables_len, choice_len))
+        return SIGDORF_SIZES;
+    int32_t all = SIGDORF_OPTIMAL;
+    workshop shop = {0};
+    room answer = {0};
+    unsigned kept = begin_floats();
+    for (size_t k = 0; k < tables_len; k++) {
+        job w;
+        int32_t status = take_match(&w, &tables[k], bids, &found[k]);
+        if (!status) {
+            w.answer = answer;
+            status = solve_in(&shop, &w, choice, NULL, &found[k]);
+            /* The next one's. */
+            answer = w.answer, w.answer = (room){0};
+            end_job(&w);
+        }
+        if (status) all = SIGDORF_SOME;
+        statuses[k] = status;
+        choice += tables[k].persons;
+    }
+    free(answer.block);
+    close_shop(&shop);
+    end_floats(kept);
+    return all;
 }

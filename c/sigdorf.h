@@ -3,9 +3,9 @@
  * What is proved holds of a call that keeps the duties below, and of no other. Nothing on this side of the border is seen by the
  * prover: this file is written by hand, and `c/test` tries its numbers against the library.
  *
- * PROVED: the five calls of whole numbers. TESTED ONLY: the two calls of doubles, sigdorf_solve_dense_f64 and
- * sigdorf_match. They are plain C around the proved calls: each search in whole numbers is proved, and how doubles become
- * whole numbers is not.
+ * PROVED: the five calls of whole numbers. TESTED ONLY: the three calls of doubles, sigdorf_solve_dense_f64,
+ * sigdorf_match and sigdorf_match_many. They are plain C around the proved calls: each search in whole numbers is
+ * proved, and how doubles become whole numbers is not.
  *
  * DUTIES of the caller, for each call:
  *   1  Each pointer is not null, is aligned as its type, and leads to as many whole values as the length after it says. A length of 0
@@ -64,14 +64,24 @@ typedef struct sigdorf_found {
 typedef struct sigdorf_found_f64 {
     double cost;      /* SIGDORF_OPTIMAL, SIGDORF_BRACKET: the double next to the sum; infinite where it is beyond all */
     double gap;       /* SIGDORF_BRACKET: the sum is above the least one by no more than this */
-    uint32_t persons; /* SIGDORF_INFEASIBLE; of sigdorf_match with a cost also: so many persons have an object */
+    uint32_t persons; /* SIGDORF_INFEASIBLE; of a match with a cost also: so many persons have an object */
     uint32_t objects; /* SIGDORF_INFEASIBLE */
     uint32_t kind;    /* SIGDORF_REFUSED: a sigdorf_list_fault; SIGDORF_BRACKET: a sigdorf_limit */
     uint32_t place;   /* SIGDORF_REFUSED: the entry that is at fault, or 0 */
 } sigdorf_found_f64;
 
-/* The object of a person who stays free, in an answer of sigdorf_match. */
+/* The object of a person who stays free, in an answer of sigdorf_match or sigdorf_match_many. */
 #define SIGDORF_FREE UINT32_MAX
+
+/* One of the tables of sigdorf_match_many: sigdorf_match's arguments of these names. 40 bytes. */
+typedef struct sigdorf_table_f64 {
+    uint32_t persons;
+    uint32_t objects;
+    const double *costs;
+    size_t costs_len;
+    size_t stride;
+    double gate;
+} sigdorf_table_f64;
 
 enum sigdorf_status {
     SIGDORF_OPTIMAL = 0,    /* of a check: the claim holds */
@@ -81,7 +91,8 @@ enum sigdorf_status {
     SIGDORF_BRACKET = 4,    /* a limit ended the search: an assignment, and a bound */
     SIGDORF_REFUSED = 5,    /* the arcs are no problem */
     SIGDORF_MEMORY = 6,     /* malloc or realloc gave NULL; nothing was written */
-    SIGDORF_START = 7       /* no run can start from the prices */
+    SIGDORF_START = 7,      /* no run can start from the prices */
+    SIGDORF_SOME = 8        /* of sigdorf_match_many: some table's status is another than SIGDORF_OPTIMAL */
 };
 
 /* The first fault of a list, looked for in this order; the last four arc by arc. Of a table the first three and the last. */
@@ -93,7 +104,7 @@ enum sigdorf_list_fault {
     SIGDORF_OBJECT,        /* the object of arc `place` is none of the problem */
     SIGDORF_COST,          /* the cost of arc `place`, or of the entry at this place, is beyond 10^9 in magnitude; of
                               doubles: it is NaN or -infinity */
-    SIGDORF_GATE           /* of sigdorf_match, after the first two: the gate is NaN or infinite */
+    SIGDORF_GATE           /* of a match, after the first two: the gate is NaN or infinite */
 };
 
 enum sigdorf_start_fault {
@@ -202,6 +213,22 @@ int32_t sigdorf_solve_dense_f64(uint32_t persons, uint32_t objects, const double
 int32_t sigdorf_match(uint32_t persons, uint32_t objects, const double *costs, size_t costs_len, size_t stride,
                       double gate, uint64_t bids, uint32_t *choice, size_t choice_len, sigdorf_found_f64 *found);
 
+/* Matches many tables, one after another, each as sigdorf_match does: the same is written, whatever the other tables
+ * are, and a table at fault costs no other one its answer. `statuses` and `found` have a place for each table: its
+ * status, and what that names. `choice` has a place for each person of each table, those of the first table first; a
+ * table without an answer has its places too. Tables may share costs. Tested only, as the top of this file says.
+ *
+ * SIGDORF_OPTIMAL: that is the status of every table; so it is where there are none.
+ * SIGDORF_SOME: it isn't. Each table has its own in `statuses`.
+ * SIGDORF_SIZES: `statuses` or `found` are not as many as the tables, or choice_len is not the number of their persons
+ *   together. Nothing was written.
+ *
+ * Working memory is taken once, grows to what the largest table takes, and is given back at the end; each search in
+ * whole numbers takes its own. No thread is started; several may call, each with some of the tables. */
+int32_t sigdorf_match_many(const sigdorf_table_f64 *tables, size_t tables_len, uint64_t bids, uint32_t *choice,
+                           size_t choice_len, int32_t *statuses, size_t statuses_len, sigdorf_found_f64 *found,
+                           size_t found_len);
+
 /* Checks an answer, whoever found it. SIGDORF_OPTIMAL: choice, cost and prices are as under SIGDORF_OPTIMAL above. */
 int32_t sigdorf_check(uint32_t persons, uint32_t objects, const sigdorf_arc *arcs, size_t arcs_len, const uint32_t *choice,
                       size_t choice_len, const int64_t *prices, size_t prices_len, int64_t cost, sigdorf_found *found);
@@ -223,6 +250,7 @@ const char *sigdorf_status_text(int32_t status);
 _Static_assert(sizeof(sigdorf_arc) == 16 && offsetof(sigdorf_arc, person) == 8 && offsetof(sigdorf_arc, object) == 12, "layout of an arc");
 _Static_assert(sizeof(sigdorf_found) == 32 && offsetof(sigdorf_found, persons) == 16 && offsetof(sigdorf_found, place) == 28, "layout of what is found");
 _Static_assert(sizeof(sigdorf_found_f64) == 32 && offsetof(sigdorf_found_f64, place) == 28, "layout of doubles' found");
+_Static_assert(sizeof(sigdorf_table_f64) == 40 && offsetof(sigdorf_table_f64, gate) == 32, "layout of a table");
 #endif
 
 #endif

@@ -12,6 +12,7 @@ const char *sigdorf_status_text(int32_t status) {
     case SIGDORF_REFUSED: return "the arcs are no problem";
     case SIGDORF_MEMORY: return "memory was refused";
     case SIGDORF_START: return "no run can start from the prices";
+    case SIGDORF_SOME: return "the status of some table is another than optimal";
     default: return "no status of this library";
     }
 }

@@ -75,7 +75,7 @@ typedef struct {
                               * does, if there are some */
     sigdorf_arc *arcs;       /* of a list; else NULL */
     uint32_t *first, *place; /* of each person the first arc, and one more; of each arc the caller's entry */
-    void *block;             /* what the answer is made of */
+    room answer;             /* what the answer is made of; another job may have had it */
     int64_t *prices, *rows, *columns, *places, *free_rows, *free_columns;
     uint32_t *choice, *hall; /* the choice of each person: the number of an entry */
     size_t pairs;

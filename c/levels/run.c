@@ -33,9 +33,8 @@ void close_shop(workshop *shop) {
 /* Takes the memory of an answer. */
 static int make_room(job *w) {
     size_t persons = w->persons, objects = w->objects;
-    if (!w->block) w->block = malloc((objects + 4 * persons + w->q.rows + w->q.columns) * 8);
-    if (!w->block) return SIGDORF_MEMORY;
-    w->prices = w->block;
+    w->prices = block_of(&w->answer, (objects + 4 * persons + w->q.rows + w->q.columns) * 8);
+    if (!w->prices) return SIGDORF_MEMORY;
     w->rows = w->prices + objects;
     w->columns = w->rows + persons;
     w->places = w->columns + persons;
@@ -48,7 +47,7 @@ static int make_room(job *w) {
 }
 
 void end_job(job *w) {
-    free(w->block);
+    free(w->answer.block);
     free(w->changes);
     free(w->units);
     free(w->combined);

@@ -24,9 +24,15 @@ int main() {
                                       hall.data(), 2, &exact) != SIGDORF_OPTIMAL || choice[0] != 1;
     failed += sigdorf_match(2, 2, table.data(), table.size(), 2, 0.15, SIGDORF_USUAL_BIDS, choice.data(), 2,
                             &exact) != SIGDORF_OPTIMAL || choice[1] != SIGDORF_FREE || exact.cost != 0.1;
+    const sigdorf_table_f64 tables[] = {{2, 2, table.data(), table.size(), 2, 0.15}, {1, 2, table.data(), 2, 2, 1.0}};
+    std::vector<std::uint32_t> choices(3);
+    std::vector<std::int32_t> statuses(2);
+    std::vector<sigdorf_found_f64> founds(2);
+    failed += sigdorf_match_many(tables, 2, SIGDORF_USUAL_BIDS, choices.data(), choices.size(), statuses.data(), statuses.size(),
+                                 founds.data(), founds.size()) != SIGDORF_OPTIMAL || choices[1] != SIGDORF_FREE || choices[2] != 0;
     char version[16];
     std::snprintf(version, sizeof version, "%d.%d", SIGDORF_VERSION_MAJOR, SIGDORF_VERSION_MINOR);
     failed += std::strcmp(version, SIGDORF_VERSION) != 0;
-    std::printf("%d passed, %d failed\n", 7 - failed, failed);
+    std::printf("%d passed, %d failed\n", 8 - failed, failed);
     return failed != 0;
 }

@@ -11,7 +11,7 @@ void *__real_malloc(size_t);
 void *__real_realloc(void *, size_t);
 void __real_free(void *);
 
-static long left = -1, taken;
+static long left = -1, taken, calls;
 static size_t bytes, most_bytes;
 
 static void *counted(void *block) {
@@ -20,7 +20,10 @@ static void *counted(void *block) {
     return block;
 }
 
-static int is_refused(void) { return left >= 0 && left-- == 0; }
+static int is_refused(void) {
+    calls++;
+    return left >= 0 && left-- == 0;
+}
 
 void *__wrap_malloc(size_t size) {
     if (is_refused())
@@ -105,11 +108,82 @@ static void refuse_each(const char *name, int32_t (*call)(void), int32_t status)
     *(bad == 0 ? &passed : &failed) += 1;
 }
 
-/* Beside the caller's table a quarter more than it at most: without gaps, or with a gate. */
-static void want_little(const char *name, int is_match) {
+/* ---- Many tables */
+
+enum { TABLES = 3, PERSONS = 6 };
+static double pairs[] = {1, 2, 3, 1};
+static const sigdorf_table_f64 tables[TABLES] = {{2, 3, parts, 6, 3, 1.5}, {2, 2, pairs, 4, 2, 1}, {2, 3, few, 6, 3, 0.15}};
+
+typedef struct many {
+    int32_t status, statuses[TABLES];
+    uint32_t choice[PERSONS];
+    sigdorf_found_f64 found[TABLES];
+} many;
+
+static many match_many(void) {
+    many m;
+    memset(&m, 0x55, sizeof m);
+    m.status = sigdorf_match_many(tables, TABLES, SIGDORF_USUAL_BIDS, m.choice, PERSONS, m.statuses, TABLES, m.found, TABLES);
+    return m;
+}
+
+/* Whether one table alone is without memory, of which nothing is written, and the others are as they are with it. */
+static int loses_one(const many *m, const many *whole) {
+    many empty;
+    int lost = 0;
+    memset(&empty, 0x55, sizeof empty);
+    for (int k = 0; k < TABLES; k++) {
+        int is_lost = m->statuses[k] == SIGDORF_MEMORY;
+        const many *wanted = is_lost ? &empty : whole;
+        lost += is_lost;
+        if (!is_lost && m->statuses[k] != whole->statuses[k]) return 0;
+        if (memcmp(m->choice + 2 * k, wanted->choice + 2 * k, 2 * sizeof *m->choice)) return 0;
+        if (memcmp(&m->found[k], &wanted->found[k], sizeof *m->found)) return 0;
+    }
+    return lost == 1 && m->status == SIGDORF_SOME;
+}
+
+static void refuse_each_of_many(void) {
+    many whole = match_many();
+    long refused = 0, bad = whole.status != SIGDORF_OPTIMAL || taken != 0;
+    for (;; refused++) {
+        left = refused;
+        many m = match_many();
+        bad += taken != 0;
+        if (left >= 0) break;
+        bad += !loses_one(&m, &whole);
+    }
+    left = -1;
+    printf("match of many tables: %ld allocations refused in turn\n", refused);
+    *(bad == 0 ? &passed : &failed) += 1;
+}
+
+/* What is taken for one table serves the next ones: so few allocations more has each. */
+static void want_few_allocations(void) {
+    enum { COUNT = 100 };
+    static sigdorf_table_f64 same[COUNT];
+    static sigdorf_found_f64 each[COUNT];
+    int32_t statuses[COUNT];
+    uint32_t chosen[2 * COUNT];
+    for (int k = 0; k < COUNT; k++) same[k] = tables[0];
+    calls = 0;
+    match();
+    long alone = calls;
+    calls = 0;
+    int32_t status = sigdorf_match_many(same, COUNT, SIGDORF_USUAL_BIDS, chosen, 2 * COUNT, statuses, COUNT, each, COUNT);
+    double more = (double)(calls - alone) / (COUNT - 1);
+    printf("match of many tables: %ld allocations of one, %.2f of each more\n", alone, more);
+    *(status == SIGDORF_OPTIMAL && more <= (double)alone - 5 && taken == 0 ? &passed : &failed) += 1;
+}
+
+/* Beside the caller's table a quarter more than it at most: without gaps, with a gate, or twice one after the other. */
+static void want_little(const char *name, int is_match, int is_many) {
     enum { SIDE = 400 };
     static double costs[SIDE * SIDE];
-    static uint32_t chosen[SIDE], hall[SIDE];
+    static uint32_t chosen[2 * SIDE], hall[SIDE];
+    const sigdorf_table_f64 large = {SIDE, SIDE, costs, SIDE * SIDE, SIDE, 0.9}, twice[] = {large, large};
+    int32_t statuses[2];
+    sigdorf_found_f64 each[2];
     uint32_t state = 1;
     for (size_t k = 0; k < SIDE * SIDE; k++) {
         state = state * 1664525 + 1013904223;
@@ -119,9 +193,10 @@ static void want_little(const char *name, int is_match) {
     size_t before = bytes;
     const size_t count = SIDE * SIDE;
     const uint64_t bids = SIGDORF_USUAL_BIDS;
-    int32_t status = is_match ? sigdorf_match(SIDE, SIDE, costs, count, SIDE, 0.9, bids, chosen, SIDE, &found_f64)
-                              : sigdorf_solve_dense_f64(SIDE, SIDE, costs, count, SIDE, bids, chosen, SIDE, hall, SIDE,
-                                                        &found_f64);
+    int32_t status = is_many    ? sigdorf_match_many(twice, 2, bids, chosen, 2 * SIDE, statuses, 2, each, 2)
+                     : is_match ? sigdorf_match(SIDE, SIDE, costs, count, SIDE, 0.9, bids, chosen, SIDE, &found_f64)
+                                : sigdorf_solve_dense_f64(SIDE, SIDE, costs, count, SIDE, bids, chosen, SIDE, hall,
+                                                          SIDE, &found_f64);
     double share = (double)(most_bytes - before) / sizeof costs;
     printf("%s: %.2f of the table\n", name, share);
     *(status == SIGDORF_OPTIMAL && share <= 1.25 && bytes == before ? &passed : &failed) += 1;
@@ -142,8 +217,11 @@ int main(void) {
     refuse_each("solve of doubles without an assignment", solve_gaps, SIGDORF_INFEASIBLE);
     refuse_each("solve of doubles without bids", stop_doubles, SIGDORF_BRACKET);
     refuse_each("match", match, SIGDORF_OPTIMAL);
-    want_little("solve of doubles", 0);
-    want_little("match", 1);
+    refuse_each_of_many();
+    want_few_allocations();
+    want_little("solve of doubles", 0, 0);
+    want_little("match", 1, 0);
+    want_little("match of many tables", 1, 1);
     refuse_each("check", check, SIGDORF_INVALID);
     refuse_each("check_hall", check_hall, SIGDORF_OPTIMAL);
     printf("%d passed, %d failed\n", passed, failed);

@@ -5,6 +5,7 @@
     linear_sum_assignment(cost_matrix)              as SciPy's call of this name, dense or sparse
     min_weight_full_bipartite_matching(matrix)      as SciPy's call of this name
     match(costs, limit)                             the best pairs of at most a limit; whoever has none stays free
+    match_many(tables, limit)                       the same of many tables, as of the frames and classes of a tracker
     max_cardinality_match(costs)                    as many pairs as possible, and of all such choices the cheapest
     lapjv(cost, cost_limit=limit)                   the same as `lap` has it; also lapjvx, lapjvxa, lapjvc and lapmod
     solve_many(problems, threads)                   solves many problems, over threads
@@ -31,6 +32,7 @@ from .certified import certify
 from .edges import Edges
 from .faults import Infeasible, Mistyped, Refused, Unsettled
 from .gated import Match, match
+from .gated_many import match_many
 from .lap_calls import lapjv, lapjvc, lapjvx, lapjvxa, lapmod
 from .library import USUAL_BIDS
 from .many import solve_many
@@ -60,6 +62,7 @@ __all__ = [
     "lapmod",
     "linear_sum_assignment",
     "match",
+    "match_many",
     "max_cardinality_match",
     "min_weight_full_bipartite_matching",
     "solve",

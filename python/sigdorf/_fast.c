@@ -23,7 +23,7 @@
 #include "levels.h"
 
 /* Rises where what Python calls changes, so that an extension of other sources isn't used: fast.py has the same. */
-#define INTERFACE 5
+#define INTERFACE 6
 /* With fewer entries a call holds the lock: what giving it up costs would count. */
 #define FEWEST 2000
 /* So many bytes of working memory at most are kept for the next call. */
@@ -61,7 +61,7 @@ static void give_back(workshop *shop) {
 typedef struct {
     job w;
     Py_buffer views[4];
-    int held, is_found;
+    int held, can_run, is_found;
 } task;
 
 /* The numbers of a buffer, of one of these types, one after another, in so many dimensions: NULL where it has others.
@@ -200,18 +200,26 @@ static PyObject *array_of(const int64_t *numbers, size_t count) {
     return array;
 }
 
-/* The arrays of an answer in a tuple: rows, columns, the places of their entries, and rows and columns that stay free.
- */
-static PyObject *pairs_of(const job *w, int count) {
-    size_t left[2] = {w->q.rows - w->pairs, w->q.columns - w->pairs};
-    const int64_t *numbers[5] = {w->rows, w->columns, w->places, w->free_rows, w->free_columns};
-    PyObject *tuple = PyTuple_New(count);
-    for (int k = 0; tuple && k < count; k++) {
-        PyObject *array = array_of(numbers[k], k < 3 ? w->pairs : left[k - 3]);
+/* The parts of an answer: rows, columns, the places of their entries, and rows and columns that stay free. */
+enum { PARTS = 5 };
+
+static const int64_t *part_of(const job *w, int part, size_t *count) {
+    const int64_t *parts[PARTS] = {w->rows, w->columns, w->places, w->free_rows, w->free_columns};
+    *count = part < 3 ? w->pairs : (part == 3 ? w->q.rows : w->q.columns) - w->pairs;
+    return parts[part];
+}
+
+/* The first of them in a tuple of arrays. */
+static PyObject *pairs_of(const job *w, int parts) {
+    PyObject *tuple = PyTuple_New(parts);
+    for (int part = 0; tuple && part < parts; part++) {
+        size_t count;
+        const int64_t *numbers = part_of(w, part, &count);
+        PyObject *array = array_of(numbers, count);
         if (!array)
             Py_CLEAR(tuple);
         else
-            PyTuple_SetItem(tuple, k, array);
+            PyTuple_SetItem(tuple, part, array);
     }
     return tuple;
 }
@@ -290,7 +298,7 @@ static PyObject *solution_of(const job *w) {
 static PyObject *answer_of(const task *t) {
     const job *w = &t->w;
     if (!t->is_found) return Py_NewRef(Py_None);
-    return w->q.wants_prices ? solution_of(w) : pairs_of(w, w->q.has_limit ? 5 : 2);
+    return w->q.wants_prices ? solution_of(w) : pairs_of(w, w->q.has_limit ? PARTS : 2);
 }
 
 /* The answers of some tasks. */
@@ -303,6 +311,59 @@ static PyObject *answers_of(const task *tasks, Py_ssize_t number) {
         else
             Py_CLEAR(answers);
     }
+    return answers;
+}
+
+/* One part of all answers, one after another. */
+static PyObject *joined(const task *tasks, Py_ssize_t number, int part) {
+    size_t all = 0, count;
+    Py_buffer view;
+    int64_t *to;
+    for (Py_ssize_t k = 0; k < number; k++)
+        if (tasks[k].is_found) part_of(&tasks[k].w, part, &count), all += count;
+    PyObject *array = new_array(all, &view, &to);
+    if (!array) return NULL;
+    for (Py_ssize_t k = 0; k < number; k++) {
+        if (!tasks[k].is_found) continue;
+        const int64_t *numbers = part_of(&tasks[k].w, part, &count);
+        memcpy(to, numbers, count * 8);
+        to += count;
+    }
+    PyBuffer_Release(&view);
+    return array;
+}
+
+/* The answer of a task, by slices of the joined parts, which begin at these places. */
+static PyObject *slices_of(const task *t, PyObject *const *arrays, size_t *from) {
+    if (!t->is_found) return Py_NewRef(Py_None);
+    PyObject *tuple = PyTuple_New(PARTS);
+    for (int part = 0; tuple && part < PARTS; part++) {
+        size_t count;
+        part_of(&t->w, part, &count);
+        PyObject *slice = PySequence_GetSlice(arrays[part], (Py_ssize_t)from[part], (Py_ssize_t)(from[part] + count));
+        from[part] += count;
+        if (!slice)
+            Py_CLEAR(tuple);
+        else
+            PyTuple_SetItem(tuple, part, slice);
+    }
+    return tuple;
+}
+
+/* The answers of some tasks under limits. Small arrays of their own would take longer than to solve small tables. */
+static PyObject *slices_of_all(const task *tasks, Py_ssize_t number) {
+    PyObject *arrays[PARTS] = {NULL}, *answers = PyList_New(number);
+    size_t from[PARTS] = {0};
+    for (int part = 0; answers && part < PARTS; part++)
+        if (!(arrays[part] = joined(tasks, number, part))) Py_CLEAR(answers);
+    for (Py_ssize_t k = 0; answers && k < number; k++) {
+        PyObject *answer = slices_of(&tasks[k], arrays, from);
+        if (answer)
+            PyList_SetItem(answers, k, answer);
+        else
+            Py_CLEAR(answers);
+    }
+    for (int part = 0; part < PARTS; part++) Py_XDECREF(arrays[part]);
     return answers;
 }
 
@@ -327,6 +388,45 @@ static PyObject *found(PyObject *module, PyObject *const *arguments, Py_ssize_t 
     return answer;
 }
 
+/* Begins a task of each problem, with its limit if there are limits: how many entries those have that can be run. */
+static size_t begin_all(task *tasks, Py_ssize_t number, workshop *shop, PyObject *problems, PyObject *limits,
+                        int maximize, PyObject *bids) {
+    size_t entries = 0;
+    for (Py_ssize_t k = 0; k < number; k++) {
+        PyObject *const more[3] = {limits ? PyTuple_GetItem(limits, k) : NULL, Py_None, bids};
+        tasks[k].w.q.wants_prices = !limits;
+        tasks[k].can_run = !begin(&tasks[k], shop, PyTuple_GetItem(problems, k), maximize, limits ? more : NULL);
+        if (tasks[k].can_run) entries += tasks[k].w.q.count;
+        PyErr_Clear();
+    }
+    return entries;
+}
+
+static void solve_all(task *tasks, Py_ssize_t number) {
+    for (Py_ssize_t k = 0; k < number; k++)
+        if (tasks[k].can_run) solve(&tasks[k]);
+}
+
+/* The answers of problems, each without a limit and with prices, or with a limit of its own. With few entries and
+ * limits the lock is held. */
+static PyObject *found_each(PyObject *problems, PyObject *limits, int maximize, PyObject *bids) {
+    Py_ssize_t number = PyTuple_Size(problems);
+    task *tasks = calloc(number ? (size_t)number : 1, sizeof *tasks);
+    if (!tasks) return PyErr_NoMemory();
+    workshop shop = take_kept();
+    if (begin_all(tasks, number, &shop, problems, limits, maximize, bids) < FEWEST && limits)
+        solve_all(tasks, number);
+    else {
+        Py_BEGIN_ALLOW_THREADS solve_all(tasks, number);
+        Py_END_ALLOW_THREADS
+    }
+    PyObject *answers = limits ? slices_of_all(tasks, number) : answers_of(tasks, number);
+    for (Py_ssize_t k = 0; k < number; k++) end(&tasks[k]);
+    give_back(&shop);
+    free(tasks);
+    return answers;
+}
+
 static PyObject *found_all(PyObject *module, PyObject *const *arguments, Py_ssize_t count) {
     (void)module;
     if (count != 2 || !PyList_Check(arguments[0]) || !(arguments[1] == Py_True || arguments[1] == Py_False)) {
@@ -335,27 +435,26 @@ static PyObject *found_all(PyObject *module, PyObject *const *arguments, Py_ssiz
     }
     /* Nobody else has this tuple, so that it stays as it is while the lock is given up. */
     PyObject *tables = PyList_AsTuple(arguments[0]);
-    if (!tables) return NULL;
-    Py_ssize_t number = PyTuple_Size(tables);
-    task *tasks = calloc(number ? (size_t)number : 1, sizeof *tasks);
-    char *runs = calloc(number ? (size_t)number : 1, 1);
+    PyObject *answers = tables ? found_each(tables, NULL, arguments[1] == Py_True, NULL) : NULL;
+    Py_XDECREF(tables);
+    return answers;
+}
+
+static PyObject *matched_all(PyObject *module, PyObject *const *arguments, Py_ssize_t count) {
+    (void)module;
+    if (count != 4 || !PyList_Check(arguments[0]) || !PyList_Check(arguments[1]) ||
+        !(arguments[2] == Py_True || arguments[2] == Py_False)) {
+        PyErr_SetString(PyExc_TypeError, "a list of problems, one of limits, True or False, and bids are wanted");
+        return NULL;
+    }
+    PyObject *problems = PyList_AsTuple(arguments[0]), *limits = problems ? PyList_AsTuple(arguments[1]) : NULL;
     PyObject *answers = NULL;
-    if (tasks && runs) {
-        workshop shop = {0};
-        for (Py_ssize_t k = 0; k < number; k++) {
-            tasks[k].w.q.wants_prices = 1;
-            runs[k] = !begin(&tasks[k], &shop, PyTuple_GetItem(tables, k), arguments[1] == Py_True, NULL);
-            PyErr_Clear();
-        }
-        Py_BEGIN_ALLOW_THREADS for (Py_ssize_t k = 0; k < number; k++) if (runs[k]) solve(&tasks[k]);
-        close_shop(&shop);
-        Py_END_ALLOW_THREADS answers = answers_of(tasks, number);
-        for (Py_ssize_t k = 0; k < number; k++) end(&tasks[k]);
-    } else
-        PyErr_NoMemory();
-    free(tasks);
-    free(runs);
-    Py_DECREF(tables);
+    if (limits && PyTuple_Size(problems) == PyTuple_Size(limits))
+        answers = found_each(problems, limits, arguments[2] == Py_True, arguments[3]);
+    else if (limits)
+        PyErr_SetString(PyExc_ValueError, "limits must be as many as problems");
+    Py_XDECREF(problems);
+    Py_XDECREF(limits);
     return answers;
 }
 
@@ -385,6 +484,8 @@ static PyMethodDef methods[] = {
         "found(problem, maximize, wants_prices, limit, start, bids): the pairs of a least assignment, or the parts of a solution, or None."),
     METHOD(found_all,
            "found_all(tables, maximize): the parts of the solution of each, or None, with the lock given up once."),
+    METHOD(matched_all,
+           "matched_all(problems, limits, maximize, bids): the pairs of each under its limit, or None; with the lock given up once."),
     {NULL, NULL, 0, NULL},
 };
 

@@ -17,7 +17,7 @@ from .waiting import call_waiting
 # A call of a table with fewer entries, or of a list with fewer, ends so soon that a thread of its own isn't worth its time.
 FEWEST, FEWEST_LISTED = 1 << 16, 1 << 13
 # That of the extension of these sources; one that was built of others isn't used.
-INTERFACE = 5
+INTERFACE = 6
 ARRAY = numpy.ndarray
 FLOAT, WHOLE, NATURAL = map(numpy.dtype, ("f8", "i8", "u8"))
 
@@ -85,6 +85,14 @@ def found(problem, maximize, wants_prices, limit=None, start=None, bids=USUAL_BI
     if problem[2].size < FEWEST_LISTED if type(problem) is tuple else problem.size < FEWEST:
         return _extension.found(problem, maximize, wants_prices, limit, start, bids)
     return call_waiting(True, _extension.found, problem, maximize, wants_prices, limit, start, bids)
+
+
+def found_under_limits(tables, limits, maximize, bids):
+    """What :func:`found` answers of each of some plain tables and its limit, by one call; arrays are slices of longer ones."""
+    if _extension is None:
+        return [None] * len(tables)
+    is_long = any(table.size >= FEWEST for table in tables)
+    return call_waiting(is_long, _extension.matched_all, tables, limits, maximize, bids)
 
 
 def solution_of(problem, maximize, start=None, bids=USUAL_BIDS):

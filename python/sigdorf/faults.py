@@ -4,6 +4,11 @@
 MOST_NAMED = 10
 
 
+def note(fault, words):
+    """Adds a note to an exception, as add_note does, which Python 3.10 lacks."""
+    fault.__notes__ = [*getattr(fault, "__notes__", ()), words]
+
+
 class Infeasible(ValueError):
     """There is no full assignment: the entries of these rows lead to just these columns, which are fewer.
 

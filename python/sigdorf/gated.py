@@ -80,7 +80,7 @@ def match(
     asked, bids = asked_to_match(costs, rows, columns, shape, maximize, missing), bids_of(bids)
     if column_limit is not None or is_listed(limit):
         return _by_own_limits(asked, limit, column_limit, bids)
-    return matched(asked, _limit_of(asked.costs, limit), bids)
+    return matched(asked, limit_of(asked.costs, limit), bids)
 
 
 def asked_to_match(costs, rows, columns, shape, maximize, missing):
@@ -92,21 +92,20 @@ def asked_to_match(costs, rows, columns, shape, maximize, missing):
 
 def matched(asked, limit, bids):
     """The Match of one limit: a whole number of the costs' type, or a float."""
-    found = fast.found(asked.plain(_as_limit(asked.costs, limit)), asked.maximize, False, limit, None, bids)
+    found = fast.found(asked.plain(as_limit(asked.costs, limit)), asked.maximize, False, limit, None, bids)
     if found is None:
         return _by_lists(asked, limit, bids)
     rows, columns, places, free_rows, free_columns = found
-    return Match(rows, columns, free_rows, free_columns, _costs_of(asked, rows, columns, places), asked.labels(rows, columns))
+    costs = asked.costs[places] if asked.table is None else costs_at(asked.table, rows, columns, places)
+    return Match(rows, columns, free_rows, free_columns, costs, asked.labels(rows, columns))
 
 
-def _costs_of(asked, rows, columns, places):
+def costs_at(table, rows, columns, places):
     """The caller's costs of pairs: by their places in a table that lies row by row, which is sooner done."""
-    if asked.table is None:
-        return asked.costs[places]
-    return asked.table.take(places) if asked.table.flags.c_contiguous else asked.table[rows, columns]
+    return table.take(places) if table.flags.c_contiguous else table[rows, columns]
 
 
-def _limit_of(costs, limit):
+def limit_of(costs, limit):
     """The limit as a whole number of the costs' type, or a float; neither is rounded."""
     if costs.dtype.kind != "f" and is_whole(limit):
         type_of_costs = numpy.iinfo(numpy.uint64 if costs.dtype == numpy.uint64 else numpy.int64)
@@ -127,7 +126,7 @@ def _exact_float(number):
     return near if math.isfinite(near) and near == number else None
 
 
-def _as_limit(costs, limit):
+def as_limit(costs, limit):
     """The costs as numbers that can be compared with the limit; none is rounded."""
     if type(limit) is float and costs.dtype.kind in "biu":
         return costs.astype(numpy.float64)
@@ -137,7 +136,7 @@ def _as_limit(costs, limit):
 def _by_lists(asked, limit, bids):
     """The Match, where the extension has none."""
     lists = asked.lists
-    values = fast.plain(_as_limit(lists.costs, limit))
+    values = fast.plain(as_limit(lists.costs, limit))
     _look_at_lists(asked)
     by_columns, persons = lists.sides[0] > lists.sides[1], min(lists.sides)
     some = numpy.flatnonzero(values >= limit if asked.maximize else values <= limit)

@@ -10,6 +10,7 @@ from . import fast
 from .arguments import number, truth
 from .asked import bids_of
 from .assignment import solve
+from .faults import note
 from .library import USUAL_BIDS
 from .solution import Solution
 
@@ -88,8 +89,7 @@ def _solved_alone(problems, number, words):
     try:
         return solve(*problem, **words) if isinstance(problem, tuple) else solve(problem, **words)
     except Exception as fault:
-        # As add_note does, which Python 3.10 lacks.
-        fault.__notes__ = [*getattr(fault, "__notes__", ()), f"in problem {number}"]
+        note(fault, f"in problem {number}")
         raise
 
 

@@ -175,7 +175,11 @@ def call_match(source, problem):
     limits = [source.randint(-9, 9) for _ in range(source.choice([problem.shape[0], 3]))]
     limits = guises.odd(source, limits) if source.random() < 0.5 else guises.same(source, limits, guises.INTEGERS)
     words = {"maximize": problem.maximize} | ({"column_limit": guises.odd(source, [3, 5, 9])} if source.random() < 0.3 else {})
-    kind = source.randrange(4)
+    kind = source.randrange(5)
+    if kind == 4:
+        found, outcome = outcome_of(sigdorf.match_many, [matrix] * 3, [limits, 5, limits], maximize=problem.maximize)
+        assert outcome != "answered" or found[1] == sigdorf.match(matrix, 5, maximize=problem.maximize)
+        return f"match_many {outcome}"
     if kind == 0:
         return f"max_cardinality_match {outcome_of(sigdorf.max_cardinality_match, matrix, maximize=problem.maximize)[1]}"
     if kind == 1:

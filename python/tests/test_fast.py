@@ -308,6 +308,7 @@ class Fast(Limited):
                     fast._extension.found((rows, rows, numpy.ones(2), 2, 2), False, True, None, None, 0)
                     fast._extension.found(matrix, False, False, 1, None, 9)
                 fast._extension.found_all(matrices, False)
+                fast._extension.matched_all(matrices, [1] * len(matrices), False, 9)
             gc.collect()
             self.assertLess(tracemalloc.get_traced_memory()[0] - before, 20_000)
         finally:

@@ -65,16 +65,28 @@ same_token xs ys value n len lt same h =
       small = h.small;
     }
 
+-- the mask of a person's digits and the separator
+pub mask_is : (n : ℕ) → n < 8 → (2 ^ 64 - 1) / 2 ^ (8 * (8 - 1 - n)) ≡ 2 ^ (8 * (n + 1)) - 1
+mask_is zero lt = refl
+mask_is (suc zero) lt = refl
+mask_is (suc (suc zero)) lt = refl
+mask_is (suc (suc (suc zero))) lt = refl
+mask_is (suc (suc (suc (suc zero)))) lt = refl
+mask_is (suc (suc (suc (suc (suc zero))))) lt = refl
+mask_is (suc (suc (suc (suc (suc (suc zero)))))) lt = refl
+mask_is (suc (suc (suc (suc (suc (suc (suc zero))))))) lt = refl
+mask_is (suc (suc (suc (suc (suc (suc (suc (suc n)))))))) lt = absurd (omega arith)
+
 -- so the bytes under the mask fix the token
-pub told_by_word : (ys : List ℕ) (b value n mask : ℕ) → length ys ≡ 8 → AreBytes ys → b ≡ from_le_bytes w64 ys → n < 7 → mask ≡ 2 ^ (8 * (n + 1)) - 1 → IsPlainToken ys value n
-    → (xs : List ℕ) (a : ℕ) → length xs ≡ 8 → AreBytes xs → a ≡ from_le_bytes w64 xs → bit_and a mask ≡ bit_and b mask → (n < 7) × IsPlainToken xs value n
+pub told_by_word : (ys : List ℕ) (b value n mask : ℕ) → length ys ≡ 8 → AreBytes ys → b ≡ from_le_bytes w64 ys → n < 8 → mask ≡ 2 ^ (8 * (n + 1)) - 1 → IsPlainToken ys value n
+    → (xs : List ℕ) (a : ℕ) → length xs ≡ 8 → AreBytes xs → a ≡ from_le_bytes w64 xs → bit_and a mask ≡ bit_and b mask → (n < 8) × IsPlainToken xs value n
 told_by_word ys b value n mask ylen yall bis few mask_is h xs a xlen xall ais same =
     let under : bit_and a (2 ^ (8 * (n + 1)) - 1) ≡ bit_and b (2 ^ (8 * (n + 1)) - 1) = ap (bit_and a) (sym mask_is) ∙ same ∙ ap (bit_and b) mask_is in
     (few, same_token xs ys value n (xlen ∙ sym ylen) (omega (arith, few, ylen)) (λ k lt. same_front xs ys a b (n + 1) k xlen ylen xall yall ais bis (omega (arith, few)) under lt) h)
 
 -- and a text that begins with them begins with the token
 pub written_front : (bytes front : List ℕ) (word : ℕ) (written : WrittenPerson) → IsWritten written → 8 ≤ length bytes → front ≡ take 8 bytes → AreBytes front → word ≡ from_le_bytes w64 front → bit_and word written.mask ≡ written.word
-    → (written.digits < 7) × IsPlainToken bytes (written.person + 1) written.digits
+    → (written.digits < 8) × IsPlainToken bytes (written.person + 1) written.digits
 written_front bytes front word written told enough same all is under =
     let len : length front ≡ 8 = ap length same ∙ length-take-le 8 bytes enough in
     let h = told front word len all is under in

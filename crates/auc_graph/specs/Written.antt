@@ -13,4 +13,4 @@ abbrev pub IsWritten : WrittenPerson → Type 0
 IsWritten written =
     (front : List ℕ) (word : ℕ) → length front ≡ 8 → AreBytes front → word ≡ from_le_bytes w64 front
     → bit_and word written.mask ≡ written.word
-    → (written.digits < 7) × IsPlainToken front (written.person + 1) written.digits
+    → (written.digits < 8) × IsPlainToken front (written.person + 1) written.digits

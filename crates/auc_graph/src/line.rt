@@ -38,7 +38,7 @@ fn word_of(front: &[u8; SHORT]) -> u64
     u64::from_le_bytes(*front)
 }
 
-/// The person at the front, where the number is one to six digits and in range.
+/// The person at the front, where the number is one to seven digits and in range.
 #[inline(always)]
 pub(crate) fn person_at(persons: u32, bytes: &[u8]) -> Option<WrittenPerson>
     ensures written { IfSome result (λ x. IsWritten x) }
@@ -46,10 +46,10 @@ pub(crate) fn person_at(persons: u32, bytes: &[u8]) -> Option<WrittenPerson>
 {
     let front = bytes.first_chunk::<SHORT>()?;
     let (value, digits) = short_number_at(Separators::Usual, front)?;
-    if digits + 1 >= SHORT || value < 1 || value > persons {
+    if value < 1 || value > persons {
         return None;
     }
-    let mask = (1u64 << (8 * (digits + 1))) - 1;
+    let mask = u64::MAX >> (8 * (SHORT - 1 - digits));
     Some(WrittenPerson {
         mask,
         word: word_of(front) & mask,

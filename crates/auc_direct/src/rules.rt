@@ -9,19 +9,22 @@
 //!    take some times as long. Where no free object can be reached, the persons reached are a Hall violator.
 //! 4. **Phases** (epsilon scaling). Columns are reduced. Eps begins at the mean spread of a row divided by the mean
 //!    number of its arcs, and is divided by 8 from phase to phase. Prices stay, and nobody keeps an object.
-//! 5. **Too fine, or calm.** A first phase is given up once it has made more bids for each person than eps can be
-//!    halved before it is 1. Eps then begins anew, at the mean spread of a row divided by the square root of the mean
-//!    number of its arcs. After a phase of fewer than two bids a person the last phase is tried at once. It may make a
-//!    bid a person for each phase that it skips. The last phase is also tried after two phases in a row that each made
-//!    about as many bids as the one before. It may make as many bids.
+//! 5. **Ties, too fine, or calm.** Where most rows have two best arcs of the same value, the last phase is tried
+//!    first. After three bids a person it is given up where more than one person in twenty is free: bids that met free
+//!    objects by chance would leave so many. Else it may make a bid a person more for each halving of the spread of all
+//!    costs. The first phase is given up once it has made more bids for each person than eps can be halved before it is
+//!    1. Eps then begins anew, at the mean spread of a row divided by the square root of the mean number of its arcs.
+//!    After a phase of fewer than two bids a person the last phase is tried at once. It may make a bid a person for
+//!    each phase that it skips. The last phase is also tried after two phases in a row that each made about as many
+//!    bids as the one before. It may make as many bids.
 //! 6. **Refinement.** Prices are refined where a phase took no fewer bids than the one before and eps is small beside
 //!    one unit of cost. A refinement may take as long as two scans for each bid of that phase.
 //! 7. **More objects than persons.** One phase at the last eps, from prices of 0, since an object that nobody holds has
 //!    to have price 0.
 
 use crate::tuning::{
-    CALM_BIDS_PER_PERSON, REFINEMENT_EPS_DIVISOR, REFINEMENT_SCANS_PER_BID, START_BIDS_PER_PERSON,
-    STEADY_DIVISOR, TABLE_SCANS_PER_ENTRY,
+    CALM_BIDS_PER_PERSON, FREE_DIVISOR, REFINEMENT_EPS_DIVISOR, REFINEMENT_SCANS_PER_BID,
+    START_BIDS_PER_PERSON, STEADY_DIVISOR, TABLE_SCANS_PER_ENTRY, TIES_BIDS_PER_PERSON,
 };
 use auc_market::LAST_EPS;
 use auc_rows::FlatRows;
@@ -103,6 +106,28 @@ impl Rules {
         self.before = made;
         Between { scans, bids }
     }
+}
+
+/// The number of bids after which the last phase is judged, where there are ties and it is tried first; 0 where there
+/// are none.
+pub(crate) fn bids_of_ties(rows: &FlatRows, are_there: bool) -> u64 {
+    if are_there {
+        u64::from(rows.persons()).saturating_mul(TIES_BIDS_PER_PERSON)
+    } else {
+        0
+    }
+}
+
+/// Whether at most as many persons are free as chance leaves by then.
+pub(crate) fn are_few_free(persons: u32, held: u32) -> bool {
+    persons.saturating_sub(held) <= persons / FREE_DIVISOR
+}
+
+/// The number of bids that the last phase may make after that: one a person for each halving of the spread of all
+/// costs. Phases from there on would make as many.
+pub(crate) fn bids_after_ties(rows: &FlatRows) -> u64 {
+    let spread = rows.scale().saturating_mul(rows.spread());
+    u64::from(rows.persons()).saturating_mul(halvings(spread))
 }
 
 /// The number of bids that a run from start prices may make at the last eps before it begins as a run without a start.

@@ -16,8 +16,8 @@ ghost use Rattle.auc_direct.specs.Runs.{IsPlayedAt, IsRunOut, Plays};
 use crate::adopt::adopted;
 use crate::eps::{coarse_eps, fine_eps, next_eps};
 use crate::reduce::start_prices;
-use crate::rules::{Rules, scans_of_table};
-use crate::tuning::{PACING, SPREAD_ROWS};
+use crate::rules::{Rules, are_few_free, bids_after_ties, bids_of_ties, scans_of_table};
+use crate::tuning::{PACING, SAMPLED_ROWS};
 use auc_claim::Reason;
 use auc_market::{Ending, Halt, Holdings, LAST_EPS, Market, Pace, Watch};
 use auc_rows::FlatRows;
@@ -31,12 +31,13 @@ pub(crate) struct Outcome {
 }
 
 /// A phase in which nobody keeps an object, tried with `few` bids though a run may make more. None where these have run
-/// out, or where `few` is 0.
+/// out, or where `few` is 0. Where few persons are free by then, it may make `more` bids.
 fn play_anew<W: Watch>(
     market: &mut Market<'_>,
     eps: i64,
     bids: u64,
     few: u64,
+    more: u64,
     pace: &mut Pace,
     watch: &mut W,
 ) -> Result<Option<Ending>, Halt>
@@ -55,7 +56,11 @@ fn play_anew<W: Watch>(
         return Ok(None);
     }
     market.open(eps);
-    market.try_phase(bids, few, pace, watch)
+    let tried = market.try_phase(bids, few, pace, watch)?;
+    if tried.is_some() || more == 0 || !are_few_free(market.persons(), market.held()) {
+        return Ok(tried);
+    }
+    market.try_phase(bids, more, pace, watch)
 }
 
 /// A phase from the prices of the market, in which nobody keeps an object, and others after it, each from the prices of
@@ -76,11 +81,11 @@ fn play_phases<W: Watch>(
     ensures halt { IfErr result (λ h. IsHalt rows.now h × (W.has_stopped watch.new ≡ W.has_stopped watch.old)) }
 {
     let mut rules = Rules::new(rows);
-    let spread = market.spread(SPREAD_ROWS);
+    let spread = market.spread(SAMPLED_ROWS);
     let mut eps = fine_eps(rows, spread);
     let mut few = rules.bids_of_first(eps);
     loop {
-        let played = play_anew(market, eps, bids, few, pace, watch)?;
+        let played = play_anew(market, eps, bids, few, 0, pace, watch)?;
         market.law();
         few = u64::MAX;
         let Some(ending) = played else {
@@ -100,12 +105,37 @@ fn play_phases<W: Watch>(
             market.law();
             return Ok(ending);
         }
-        let early = play_anew(market, LAST_EPS, bids, between.bids, pace, watch)?;
+        let early = play_anew(market, LAST_EPS, bids, between.bids, 0, pace, watch)?;
         market.law();
         if let Some(ending) = early {
             return Ok(ending);
         }
     }
+}
+
+/// The phases of a run with as many objects as persons. Where there are ties, the last phase is tried first.
+fn play_square<W: Watch>(
+    market: &mut Market<'_>,
+    rows: &FlatRows,
+    bids: u64,
+    pace: &mut Pace,
+    watch: &mut W,
+) -> Result<Ending, Halt>
+    requires rows { market.old.table ≡ rows.now }
+    requires square { rows.now.objects ≡ length rows.now.rows }
+    ensures over { IfOk result (λ e. IsRunOut bids (W.has_stopped watch.old)
+        (W.has_stopped watch.new) e market.old market.new) }
+    ensures asked { IfOk result (λ e. W.was_asked watch.new ≡ true) }
+    ensures halt { IfErr result (λ h. IsHalt rows.now h × (W.has_stopped watch.new ≡ W.has_stopped watch.old)) }
+{
+    let few = bids_of_ties(rows, market.has_ties(SAMPLED_ROWS));
+    let more = bids_after_ties(rows).min(bids.saturating_sub(few));
+    let tied = play_anew(market, LAST_EPS, bids, few, more, pace, watch)?;
+    market.law();
+    if let Some(ending) = tied {
+        return Ok(ending);
+    }
+    play_phases(market, rows, bids, pace, watch)
 }
 
 /// A run from the holdings of a market at the last eps. The last phase is tried with `few` bids before anything else,
@@ -149,7 +179,7 @@ pub(crate) fn run<W: Watch>(
             holdings: market.into_holdings(ending),
         });
     }
-    let ending = play_phases(&mut market, rows, bids, &mut pace, watch)?;
+    let ending = play_square(&mut market, rows, bids, &mut pace, watch)?;
     Ok(Outcome {
         ending,
         holdings: market.into_holdings(ending),

@@ -5,8 +5,14 @@ use auc_market::Pacing;
 /// Eps is divided by this from phase to phase. From 4 to 16 whole runs take about as long.
 pub(crate) const EPS_DIVISOR: i64 = 8;
 
-/// The spread of at least this many rows is taken, where there are as many.
-pub(crate) const SPREAD_ROWS: u32 = 512;
+/// The spread and the ties of at least this many rows are taken, where there are as many.
+pub(crate) const SAMPLED_ROWS: u32 = 512;
+
+/// Where there are ties, the last phase is judged after so many bids a person.
+pub(crate) const TIES_BIDS_PER_PERSON: u64 = 3;
+
+/// One person in this many is free by then, where each bid meets a free object by chance: e^3.
+pub(crate) const FREE_DIVISOR: u32 = 20;
 
 /// After a phase of fewer bids a person than this the last phase is tried next: not every person was displaced even
 /// once.

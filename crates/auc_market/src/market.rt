@@ -188,6 +188,33 @@ impl<'a> Market<'a> {
         mean.min(scaled_spread(rows)).max(LAST_EPS)
     }
 
+    /// Whether most persons have two best arcs of the same value, at the present prices. At least `sample` persons are
+    /// sampled, or all.
+    pub fn has_ties(&self, sample: u32) -> bool {
+        let rows = self.rows;
+        let apart = rows.persons().checked_div(sample).unwrap_or(1).max(1);
+        let mut sampled = 0u32;
+        let mut ties = 0u32;
+        for person in 0..rows.persons() {
+            if person % apart != 0 {
+                continue;
+            }
+            let mut least = i64::MAX;
+            let mut second = i64::MAX;
+            for arc in rows.row(person) {
+                let prices = self.holdings.prices.as_slice();
+                let value = wrapping_value_of(rows.scale(), *arc, prices);
+                second = second.min(value.max(least));
+                least = least.min(value);
+            }
+            sampled = sampled.saturating_add(1);
+            if least == second {
+                ties = ties.saturating_add(1);
+            }
+        }
+        ties > sampled / 2
+    }
+
     /// The first person from here on, below `until`, who holds no object and is neither of these two; `until` where
     /// there is none.
     #[inline(always)]

@@ -1,5 +1,5 @@
-//! The last phase, tried early: where the first phase took few bids it ends the run, or is given up. And a run that
-//! ends before it comes, since prices were refined.
+//! The last phase, tried early: where the first phase took few bids it ends the run, or is given up, and so it is where
+//! there are ties. And a run that ends before it comes, since prices were refined.
 
 ghost use Rattle.std.specs.Prelude.{false, true, ◌≤◌};
 
@@ -13,12 +13,13 @@ use std::test::*;
 const LEVELS: &str =
     "4\n1 1 1 1 2 1000000\n2 2 1 2 3 1000000\n3 3 1 3 4 1000000\n4 1 1000000 4 4 1\n";
 
-/// Counts how often it was asked, and keeps the first, the second and the last eps; and goes on.
+/// Counts how often it was asked, and keeps the first three eps and the last one; and goes on.
 #[derive(Drop)]
 struct Ear {
     questions: u32,
     first: i64,
     second: i64,
+    third: i64,
     last: i64,
 }
 
@@ -38,6 +39,9 @@ impl Watch for Ear {
         if self.questions == 1 {
             self.second = progress.eps;
         }
+        if self.questions == 2 {
+            self.third = progress.eps;
+        }
         self.last = progress.eps;
         self.questions = self.questions.saturating_add(1);
         true
@@ -49,6 +53,7 @@ fn listening() -> Ear {
         questions: 0,
         first: 0,
         second: 0,
+        third: 0,
         last: 0,
     }
 }
@@ -106,8 +111,32 @@ fn two_levels(rt: HostRuntime) -> Result<(), Fail> {
     Ok(())
 }
 
-/// The last phase is tried after the first, and given up, so others follow. As these take no fewer bids, prices are
-/// refined, and no other phase at the last eps comes.
+/// Persons who each have an object at cost 1 and the next one too: at the last eps one phase is enough.
+#[test]
+fn ties(rt: HostRuntime) -> Result<(), Fail> {
+    let mut arcs = Vec::new(rt.alloc());
+    for person in 0..40 {
+        for object in [person, (person + 1) % 40] {
+            arcs.push(Arc {
+                cost: 1,
+                person,
+                object,
+            })?;
+        }
+    }
+    let problem = ArcList::from_arcs(40, 40, arcs).map_err(|_| Fail::new("no problem"))?;
+    let mut ear = listening();
+    let answer = solve_direct_watched(rt.alloc(), &problem, &AMPLE, &mut ear)?;
+    let told = text_of(&rt, &problem, answer)?;
+    assert!(rt; told.as_slice().starts_with(b"auction 1\noptimal 40 40\n"));
+    assert!(rt; ear.questions == 1);
+    assert!(rt; ear.first == 1);
+    Ok(())
+}
+
+/// Most persons have two best objects, so the last phase is tried first. It is given up, since a fifth of the persons
+/// stay without an object. It is tried again after the next phase, and given up, so others follow. As these take no
+/// fewer bids, prices are refined, and no other phase at the last eps comes.
 #[test]
 fn given_up_and_refined(rt: HostRuntime) -> Result<(), Fail> {
     for (many, others, claim) in [
@@ -119,9 +148,10 @@ fn given_up_and_refined(rt: HostRuntime) -> Result<(), Fail> {
         let answer = solve_direct_watched(rt.alloc(), &problem, &AMPLE, &mut ear)?;
         let told = text_of(&rt, &problem, answer)?;
         assert!(rt; told.as_slice().starts_with(claim.as_bytes()));
-        assert!(rt; ear.first > 1);
-        assert!(rt; ear.second == 1);
-        assert!(rt; ear.questions > 2);
+        assert!(rt; ear.first == 1);
+        assert!(rt; ear.second > 1);
+        assert!(rt; ear.third == 1);
+        assert!(rt; ear.questions > 3);
         assert!(rt; ear.last > 1);
     }
     Ok(())

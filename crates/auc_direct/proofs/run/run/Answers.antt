@@ -53,11 +53,11 @@ returns-clause-outcome g c =
     let bids = c.args.bids in
     let a = c.args.market in
     let b = c.try_phase.new.self in
-    let d = c.play_phases.new.market in
+    let d = c.play_square.new.market in
     let e = c.requires.begins in
     let before = g.W.Watch.has_stopped c.args.watch.now in
     let between = g.W.Watch.has_stopped c.try_phase.new.watch in
-    let after = g.W.Watch.has_stopped c.play_phases.new.watch in
+    let after = g.W.Watch.has_stopped c.play_square.new.watch in
     let tried = rw c.in_default.is at c.in_ok-ending.ensures.tried in
     let over = over_before bids before between after c.in_ok-ending-3.ending a b d (rw c.in_default.is at c.in_ok-ending.ensures.going) (plays_tried bids a b tried) c.in_ok-ending-3.ensures.over in
     outcome_of c.args.rows.now bids before after c.in_ok-ending-3.ending a d c.into_holdings-2.result.prices.items c.into_holdings-2.result.holders.items c.into_holdings-2.result.owns.items e.table over c.into_holdings-2.ensures

@@ -50,11 +50,16 @@ def look_at_kind(solution):
         raise Refused(f"a Solution is wanted, and not a {type(solution).__name__}")
 
 
+def _has_sides(shape, sides):
+    """Whether these are its sides. The length comes first: somebody's shape may be a range of any length."""
+    return len(shape) == len(sides) and tuple(shape) == sides
+
+
 def look_at_names(labels, sides, solution):
     """Refuses a solution with other labels or of another shape."""
     if type(solution.labels) is not type(labels) or attempt(lambda given: given == labels, solution.labels) is not True:
         raise Refused("the labels of the solution are not those of its rows and columns")
-    if solution.shape is not None and attempt(lambda given: tuple(given) == sides, solution.shape) is not True:
+    if solution.shape is not None and attempt(lambda given: _has_sides(given, sides), solution.shape) is not True:
         raise Refused("the shape of the solution is not that of the problem")
 
 

@@ -34,7 +34,7 @@ use Rattle.auc_market.specs.declared.ending.Ending.{Ending}
 use Rattle.auc_direct.specs.Adopted.{IsFullTable}
 use Rattle.auc_direct.specs.Endings.{IsAsked, AreAdopted, AreFirst, AreOfRun, HasReason, IsBracketFor, IsClaimOfFirst, IsClaimOfRun, IsLimited, IsLimitedBy, IsLimitedFirst, IsLimitedFrom, IsLimitedUnless, IsOfFirstPhases, IsOfPhases, IsOfPhasesFrom, IsWideProblem}
 use Rattle.auc_direct.specs.Told.{IsTold}
-use Rattle.auc_market.specs.Endings.{IsLeft, IsStart, IsStopped, IsToldOr}
+use Rattle.auc_market.specs.Endings.{IsLeft, IsRunStopped, IsStart, IsToldOr}
 use Rattle.auc_direct.specs.Phases.{HasRun}
 use Rattle.auc_direct.specs.Held.{AreHeld, AreHolders, AreListed, arc_by}
 use Rattle.auc_direct.specs.Held.{EachHasRow}
@@ -235,7 +235,7 @@ module _ (p : Problem) (r : FlatTable) (rows : AreRowsOf p r) where
 -- ---- under a watch
 
 -- the answer of a stop, if the watch has said no, and otherwise one that a limit explains
-pub limit_or_told : (before after : Bool) (p : Problem) (r : FlatTable) (bids : ℕ) (begun : List ℤ) (ending : Ending) (prices : List ℤ) (answer : Answer) → IsToldOr before after ending ((first : State) × (first.prices ≡ begun) × IsStopped r bids first ending prices) → IsTold p r ending prices answer → IsLimitedUnless before after answer (IsLimited p bids (total begun) answer)
+pub limit_or_told : (before after : Bool) (p : Problem) (r : FlatTable) (bids : ℕ) (begun : List ℤ) (ending : Ending) (prices : List ℤ) (answer : Answer) → IsToldOr before after ending ((first : State) × (first.prices ≡ begun) × IsRunStopped r bids first ending prices) → IsTold p r ending prices answer → IsLimitedUnless before after answer (IsLimited p bids (total begun) answer)
 limit_or_told before after p r bids begun ending prices answer (inl stop) told = inl (stop.0, told.told stop.1)
 limit_or_told before after p r bids begun ending prices answer (inr is) told = inr (is.0, subst (λ (zs : List ℤ). IsLimited p bids (total zs) answer) is.1.1 (told.limited bids is.1.0 is.1.2))
 

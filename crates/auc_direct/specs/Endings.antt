@@ -17,13 +17,13 @@ use Rattle.auc_direct.specs.Adopted.{IsFullTable}
 use Rattle.auc_direct.specs.Phases.{HasRun, IsAdopted}
 use Rattle.auc_market.specs.Phases.{IsRun}
 use Rattle.auc_market.specs.Starts.{AreOpened}
-use Rattle.auc_market.specs.Endings.{IsLeft, IsLimit, IsStopped, IsToldOr}
+use Rattle.auc_market.specs.Endings.{IsLeft, IsLimitOfRun, IsRunStopped, IsToldOr}
 
 -- The result of a run that began with these prices: only a limit has stopped it, or its watch.
 pub record IsOutcome (r : FlatTable) (bids : ℕ) (begun : List ℤ) (before after : Bool) (ending : Ending)
     (prices : List ℤ) (holders : List ℕ) (owns : List ShortArc) : Type 0 where
   pub left : IsLeft r ending prices holders owns
-  pub stopped : IsToldOr before after ending ((first : State) × (first.prices ≡ begun) × IsStopped r bids first ending prices)
+  pub stopped : IsToldOr before after ending ((first : State) × (first.prices ≡ begun) × IsRunStopped r bids first ending prices)
   pub run : HasRun r bids begun ending prices
 
 -- where the greatest price ends the last phase, the rows are wide or have no full matching
@@ -36,7 +36,7 @@ IsLimitedBy p bids begun (CertParts.Optimal cost choice prices) = Unit {0}
 IsLimitedBy p bids begun (CertParts.Infeasible persons objects) = Unit {0}
 IsLimitedBy p bids begun (CertParts.Bracket reason lower cost choice prices) =
     (t : Table) × (r : FlatTable) × (first : State) × IsTableOf p t × AreSameRows t r × (begun ≤ℤ total first.prices)
-    × IsLimit r bids first reason prices
+    × IsLimitOfRun r bids first reason prices
 
 -- a bracket is answered only where a limit has stopped a phase of a run; its first prices add up to at least this sum
 abbrev pub IsLimited : Problem → ℕ → ℤ → Answer → Type 0

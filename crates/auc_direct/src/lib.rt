@@ -4,9 +4,8 @@
 //! which the checker finds no fault.
 //!
 //! The method is the Gauss-Seidel auction with epsilon scaling (Bertsekas, 1979; Bertsekas and Eckstein, 1988).
-//! Shortest augmenting paths (Edmonds and Karp, 1972), column reduction (Jonker and Volgenant, 1987) and price
-//! refinement (Goldberg and Kennedy, 1995) speed it up. A bid takes O(arcs of the person), a path at most O(arcs * log
-//! arcs).
+//! Shortest augmenting paths (Edmonds and Karp, 1972) and column reduction (Jonker and Volgenant, 1987) speed it up. A
+//! bid takes O(arcs of the person), a path at most O(arcs * log arcs).
 //!
 //! Proved: what each answer says, and that no phase makes more bids than it may. Not proved: speed, or that a path is
 //! taken at all.

@@ -15,128 +15,78 @@
 //!    costs. The first phase is given up once it has made more bids for each person than eps can be halved before it is
 //!    1. Eps then begins anew, at the mean spread of a row divided by the square root of the mean number of its arcs.
 //!    After a phase of fewer than two bids a person the last phase is tried at once. It may make a bid a person for
-//!    each phase that it skips. The last phase is also tried after two phases in a row that each made about as many
-//!    bids as the one before. It may make as many bids.
-//! 6. **Refinement.** Prices are refined where a phase took no fewer bids than the one before and eps is small beside
-//!    one unit of cost. A refinement may take as long as two scans for each bid of that phase.
-//! 7. **More objects than persons.** One phase at the last eps, from prices of 0, since an object that nobody holds has
+//!    each phase from there on.
+//! 6. **More objects than persons.** One phase at the last eps, from prices of 0, since an object that nobody holds has
 //!    to have price 0.
 
 use crate::tuning::{
-    CALM_BIDS_PER_PERSON, FREE_DIVISOR, REFINEMENT_EPS_DIVISOR, REFINEMENT_SCANS_PER_BID,
-    START_BIDS_PER_PERSON, STEADY_DIVISOR, TABLE_SCANS_PER_ENTRY, TIES_BIDS_PER_PERSON,
+    CALM_BIDS_PER_PERSON, EPS_DIVISOR, FREE_DIVISOR, START_BIDS_PER_PERSON, TABLE_SCANS_PER_ENTRY,
+    TIES_BIDS_PER_PERSON,
 };
-use auc_market::LAST_EPS;
+use auc_market::{Attempt, LAST_EPS};
 use auc_rows::FlatRows;
 
-/// What the rules need of a problem, and the number of bids of the last phase. `steady` is the number of phases in a
-/// row that took about as many bids as the one before.
-#[derive(Clone, Copy)]
-pub(crate) struct Rules {
-    persons: u64,
-    scale: i64,
-    before: u64,
-    steady: u8,
-}
-
-/// What may come between two phases: a refinement with at most `scans` scans, and the last phase with at most `bids`
-/// bids; 0 where it isn't tried.
-#[derive(Clone, Copy)]
-pub(crate) struct Between {
-    pub(crate) scans: u64,
-    pub(crate) bids: u64,
-}
-
-/// How often eps is halved until it is 1.
-fn halvings(eps: i64) -> u64 {
+/// How often eps is divided by this number until it is 1.
+fn divisions(eps: i64, divisor: i64) -> u64 {
     let mut left = eps;
     let mut many: u64 = 0;
     for _ in 0..64 {
         if left <= LAST_EPS {
             break;
         }
-        left /= 2;
+        left = left.checked_div(divisor).unwrap_or(0);
         many = many.saturating_add(1);
     }
     many
 }
 
-impl Rules {
-    /// Before the first phase.
-    pub(crate) fn new(rows: &FlatRows) -> Rules {
-        Rules {
-            persons: u64::from(rows.persons()),
-            scale: rows.scale(),
-            before: 0,
-            steady: 0,
-        }
-    }
+/// How often eps is halved until it is 1.
+fn halvings(eps: i64) -> u64 {
+    divisions(eps, 2)
+}
 
-    /// The number of bids that a first phase at this eps may make before it is given up.
-    pub(crate) fn bids_of_first(self, eps: i64) -> u64 {
-        self.persons.saturating_mul(halvings(eps).max(1))
-    }
-
-    /// The number of bids that the last phase may make when it is tried early: after a phase of `made` bids and before
-    /// a phase at this eps.
-    fn bids_ahead(&mut self, made: u64, eps: i64) -> u64 {
-        if eps <= LAST_EPS {
-            return 0;
-        }
-        if made < CALM_BIDS_PER_PERSON.saturating_mul(self.persons) {
-            return self.persons.saturating_mul(1 + halvings(eps) / 3);
-        }
-        if made.abs_diff(self.before).saturating_mul(STEADY_DIVISOR) > self.before {
-            self.steady = 0;
-            return 0;
-        }
-        self.steady = self.steady.saturating_add(1);
-        if self.steady == 2 { made } else { 0 }
-    }
-
-    /// What comes after a phase of `made` bids and before a phase at this eps.
-    pub(crate) fn after(&mut self, made: u64, eps: i64) -> Between {
-        let scans = if made < self.before || eps > self.scale / REFINEMENT_EPS_DIVISOR {
-            0
-        } else {
-            made.saturating_mul(REFINEMENT_SCANS_PER_BID)
-                .saturating_add(self.persons)
-        };
-        let bids = self.bids_ahead(made, eps);
-        self.before = made;
-        Between { scans, bids }
+/// So many bids for each person, in an attempt that is given up after them.
+fn attempt_of(rows: &FlatRows, bids: u64) -> Attempt {
+    Attempt {
+        bids: for_each(rows, bids),
+        free: 0,
+        more: 0,
     }
 }
 
-/// The number of bids after which the last phase is judged, where there are ties and it is tried first; 0 where there
-/// are none.
-pub(crate) fn bids_of_ties(rows: &FlatRows, are_there: bool) -> u64 {
-    if are_there {
-        u64::from(rows.persons()).saturating_mul(TIES_BIDS_PER_PERSON)
-    } else {
-        0
+/// So many bids for each person.
+fn for_each(rows: &FlatRows, bids: u64) -> u64 {
+    u64::from(rows.persons()).saturating_mul(bids)
+}
+
+/// The first phase, at this eps.
+pub(crate) fn attempt_of_first(rows: &FlatRows, eps: i64) -> Attempt {
+    attempt_of(rows, halvings(eps).max(1))
+}
+
+/// The last phase before its turn: after a phase of `made` bids and before a phase at this eps.
+pub(crate) fn attempt_ahead(rows: &FlatRows, made: u64, eps: i64) -> Attempt {
+    if eps <= LAST_EPS || made >= for_each(rows, CALM_BIDS_PER_PERSON) {
+        return attempt_of(rows, 0);
+    }
+    attempt_of(rows, divisions(eps, EPS_DIVISOR).saturating_add(1))
+}
+
+/// The last phase before all others, where there are ties.
+pub(crate) fn attempt_with_ties(rows: &FlatRows, are_there: bool) -> Attempt {
+    if !are_there {
+        return attempt_of(rows, 0);
+    }
+    Attempt {
+        bids: for_each(rows, TIES_BIDS_PER_PERSON),
+        free: rows.persons() / FREE_DIVISOR,
+        more: for_each(rows, halvings(rows.scale().saturating_mul(rows.spread()))),
     }
 }
 
-/// Whether at most as many persons are free as chance leaves by then.
-pub(crate) fn are_few_free(persons: u32, held: u32) -> bool {
-    persons.saturating_sub(held) <= persons / FREE_DIVISOR
-}
-
-/// The number of bids that the last phase may make after that: one a person for each halving of the spread of all
-/// costs. Phases from there on would make as many.
-pub(crate) fn bids_after_ties(rows: &FlatRows) -> u64 {
-    let spread = rows.scale().saturating_mul(rows.spread());
-    u64::from(rows.persons()).saturating_mul(halvings(spread))
-}
-
-/// The number of bids that a run from start prices may make at the last eps before it begins as a run without a start.
-/// With more objects than persons it may not begin so, and the number is any.
-pub(crate) fn bids_from_start(rows: &FlatRows) -> u64 {
-    if rows.persons() < rows.objects() {
-        return u64::MAX;
-    }
-    START_BIDS_PER_PERSON.saturating_mul(u64::from(rows.persons()))
+/// The last phase from start prices, with as many objects as persons.
+pub(crate) fn attempt_from_start(rows: &FlatRows, is_start: bool) -> Attempt {
+    attempt_of(rows, if is_start { START_BIDS_PER_PERSON } else { 0 })
 }
 
 /// The number of entries that the search of a full table may scan. With more objects than persons any number: one phase

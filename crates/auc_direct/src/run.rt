@@ -16,10 +16,12 @@ ghost use Rattle.auc_direct.specs.Runs.{IsPlayedAt, IsRunOut, Plays};
 use crate::adopt::adopted;
 use crate::eps::{coarse_eps, fine_eps, next_eps};
 use crate::reduce::start_prices;
-use crate::rules::{Rules, are_few_free, bids_after_ties, bids_of_ties, scans_of_table};
+use crate::rules::{
+    attempt_ahead, attempt_from_start, attempt_of_first, attempt_with_ties, scans_of_table,
+};
 use crate::tuning::{PACING, SAMPLED_ROWS};
 use auc_claim::Reason;
-use auc_market::{Ending, Halt, Holdings, LAST_EPS, Market, Pace, Watch};
+use auc_market::{Attempt, Ending, Halt, Holdings, LAST_EPS, Market, Pace, Watch};
 use auc_rows::FlatRows;
 use std::alloc::Global;
 
@@ -30,14 +32,12 @@ pub(crate) struct Outcome {
     pub(crate) holdings: Holdings,
 }
 
-/// A phase in which nobody keeps an object, tried with `few` bids though a run may make more. None where these have run
-/// out, or where `few` is 0. Where few persons are free by then, it may make `more` bids.
+/// A phase in which nobody keeps an object. None where the attempt is given up, or where it has no bids.
 fn play_anew<W: Watch>(
     market: &mut Market<'_>,
     eps: i64,
     bids: u64,
-    few: u64,
-    more: u64,
+    attempt: Attempt,
     pace: &mut Pace,
     watch: &mut W,
 ) -> Result<Option<Ending>, Halt>
@@ -49,45 +49,41 @@ fn play_anew<W: Watch>(
         (W.has_stopped watch.new) e market.old market.new)) }
     ensures going { IfOk result (λ o. IfNone o (W.has_stopped watch.new ≡ W.has_stopped watch.old)) }
     ensures asked { IfOk result (λ o. IfSome o (λ e. W.was_asked watch.new ≡ true)) }
-    ensures few { IfOk result (λ o. IfNone o (few < 2 ^ 64 - 1)) }
+    ensures whole { IfOk result (λ o. IfNone o (attempt.bids < 2 ^ 64 - 1)) }
     ensures halt { IfErr result (λ h. IsHalt market.old.table h × (W.has_stopped watch.new ≡ W.has_stopped watch.old)) }
 {
-    if few == 0 {
+    if attempt.bids == 0 {
         return Ok(None);
     }
     market.open(eps);
-    let tried = market.try_phase(bids, few, pace, watch)?;
-    if tried.is_some() || more == 0 || !are_few_free(market.persons(), market.held()) {
-        return Ok(tried);
-    }
-    market.try_phase(bids, more, pace, watch)
+    market.try_phase(bids, attempt, pace, watch)
 }
 
 /// A phase from the prices of the market, in which nobody keeps an object, and others after it, each from the prices of
-/// the one before. It ends after the phase at the last eps, or after the first that a limit stops. It also ends where
-/// refinement shows that the assignment has the least cost. Each phase may make `bids` bids.
+/// the one before. The first eps is chosen by the mean spread of a row. It ends after the phase at the last eps, or after the first that a limit stops. Each phase may make
+/// `bids` bids.
 fn play_phases<W: Watch>(
     market: &mut Market<'_>,
     rows: &FlatRows,
+    spread: i64,
     bids: u64,
     pace: &mut Pace,
     watch: &mut W,
 ) -> Result<Ending, Halt>
     requires rows { market.old.table ≡ rows.now }
     requires square { rows.now.objects ≡ length rows.now.rows }
+    requires spread { IsEpsOf rows.now spread }
     ensures over { IfOk result (λ e. IsRunOut bids (W.has_stopped watch.old)
         (W.has_stopped watch.new) e market.old market.new) }
     ensures asked { IfOk result (λ e. W.was_asked watch.new ≡ true) }
     ensures halt { IfErr result (λ h. IsHalt rows.now h × (W.has_stopped watch.new ≡ W.has_stopped watch.old)) }
 {
-    let mut rules = Rules::new(rows);
-    let spread = market.spread(SAMPLED_ROWS);
     let mut eps = fine_eps(rows, spread);
-    let mut few = rules.bids_of_first(eps);
+    let mut attempt = attempt_of_first(rows, eps);
     loop {
-        let played = play_anew(market, eps, bids, few, 0, pace, watch)?;
+        let played = play_anew(market, eps, bids, attempt, pace, watch)?;
         market.law();
-        few = u64::MAX;
+        attempt = Attempt::WHOLE;
         let Some(ending) = played else {
             eps = coarse_eps(rows, spread);
             continue;
@@ -100,12 +96,8 @@ fn play_phases<W: Watch>(
             return Ok(ending);
         };
         eps = next;
-        let between = rules.after(pace.made, eps);
-        if market.refine(between.scans)? {
-            market.law();
-            return Ok(ending);
-        }
-        let early = play_anew(market, LAST_EPS, bids, between.bids, 0, pace, watch)?;
+        let ahead = attempt_ahead(rows, pace.made, eps);
+        let early = play_anew(market, LAST_EPS, bids, ahead, pace, watch)?;
         market.law();
         if let Some(ending) = early {
             return Ok(ending);
@@ -128,25 +120,24 @@ fn play_square<W: Watch>(
     ensures asked { IfOk result (λ e. W.was_asked watch.new ≡ true) }
     ensures halt { IfErr result (λ h. IsHalt rows.now h × (W.has_stopped watch.new ≡ W.has_stopped watch.old)) }
 {
-    let few = bids_of_ties(rows, market.has_ties(SAMPLED_ROWS));
-    let more = bids_after_ties(rows).min(bids.saturating_sub(few));
-    let tied = play_anew(market, LAST_EPS, bids, few, more, pace, watch)?;
+    let sample = market.sample(SAMPLED_ROWS);
+    let attempt = attempt_with_ties(rows, sample.has_ties);
+    let tied = play_anew(market, LAST_EPS, bids, attempt, pace, watch)?;
     market.law();
     if let Some(ending) = tied {
         return Ok(ending);
     }
-    play_phases(market, rows, bids, pace, watch)
+    play_phases(market, rows, sample.spread, bids, pace, watch)
 }
 
-/// A run from the holdings of a market at the last eps. The last phase is tried with `few` bids before anything else,
-/// and persons keep what they hold in it: this is for a start. Then a full table is searched as a table; with more
-/// objects than persons there is one phase.
-pub(crate) fn run<W: Watch>(
+/// A run with more objects than persons: one phase, in which persons keep what they hold. Without a start a full table
+/// is searched as a table first.
+fn run_wide<W: Watch>(
     alloc: Global,
     rows: &FlatRows,
     bids: u64,
     market: Market<'_>,
-    few: u64,
+    is_start: bool,
     watch: &mut W,
 ) -> Result<Outcome, Halt>
     requires begins { Begins rows.now market }
@@ -156,9 +147,48 @@ pub(crate) fn run<W: Watch>(
     ensures asked { IfOk result (λ o. (W.was_asked watch.new ≡ true) ⊎ IsFullTable rows.now) }
     ensures halt { IfErr result (λ h. IsHalt rows.now h × (W.has_stopped watch.new ≡ W.has_stopped watch.old)) }
 {
+    if !is_start {
+        if let Some(holdings) = adopted(alloc, rows, scans_of_table(rows))? {
+            return Ok(Outcome {
+                ending: Ending::Sold,
+                holdings,
+            });
+        }
+    }
     let mut market = market;
     let mut pace = Pace::new(rows, PACING);
-    if let Some(ending) = market.try_phase(bids, few, &mut pace, watch)? {
+    let ending = market.play(bids, &mut pace, watch)?;
+    market.law();
+    Ok(Outcome {
+        ending,
+        holdings: market.into_holdings(ending),
+    })
+}
+
+/// A run from the holdings of a market at the last eps. From a start the last phase is tried before anything else, and
+/// persons keep what they hold in it. Then a full table is searched as a table.
+pub(crate) fn run<W: Watch>(
+    alloc: Global,
+    rows: &FlatRows,
+    bids: u64,
+    market: Market<'_>,
+    is_start: bool,
+    watch: &mut W,
+) -> Result<Outcome, Halt>
+    requires begins { Begins rows.now market }
+    ensures outcome { IfOk result
+        (λ o. IsOutcome rows.now bids market.entry.prices (W.has_stopped watch.old) (W.has_stopped watch.new)
+        o.ending o.holdings.prices.items o.holdings.holders.items o.holdings.owns.items) }
+    ensures asked { IfOk result (λ o. (W.was_asked watch.new ≡ true) ⊎ IsFullTable rows.now) }
+    ensures halt { IfErr result (λ h. IsHalt rows.now h × (W.has_stopped watch.new ≡ W.has_stopped watch.old)) }
+{
+    if rows.persons() != rows.objects() {
+        return run_wide(alloc, rows, bids, market, is_start, watch);
+    }
+    let mut market = market;
+    let mut pace = Pace::new(rows, PACING);
+    let attempt = attempt_from_start(rows, is_start);
+    if let Some(ending) = market.try_phase(bids, attempt, &mut pace, watch)? {
         market.law();
         return Ok(Outcome {
             ending,
@@ -169,14 +199,6 @@ pub(crate) fn run<W: Watch>(
         return Ok(Outcome {
             ending: Ending::Sold,
             holdings,
-        });
-    }
-    if rows.persons() != rows.objects() {
-        let ending = market.play(bids, &mut pace, watch)?;
-        market.law();
-        return Ok(Outcome {
-            ending,
-            holdings: market.into_holdings(ending),
         });
     }
     let ending = play_square(&mut market, rows, bids, &mut pace, watch)?;
@@ -232,7 +254,7 @@ pub(crate) fn run_first<W: Watch>(
 {
     let prices = start_prices(alloc, rows)?;
     let market = Market::new(alloc, rows, prices)?;
-    let outcome = run(alloc, rows, bids, market, 0, watch)?;
+    let outcome = run(alloc, rows, bids, market, false, watch)?;
     if outcome.ending != Ending::Stopped(Reason::Ceiling) {
         return Ok(outcome);
     }

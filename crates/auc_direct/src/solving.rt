@@ -19,7 +19,6 @@ ghost use Rattle.auc_direct.specs.Told.{IsTold};
 
 use crate::gathering::gather;
 use crate::onward::Onward;
-use crate::rules::bids_from_start;
 use crate::run::{Outcome, run, run_first};
 use auc_answers::finish::{bracket, infeasible, proved_bracket, proved_optimal};
 use auc_answers::{Answer, Gathered, Prepared, prepare};
@@ -197,9 +196,7 @@ fn concluded(
 /// The method is the auction with epsilon scaling (Bertsekas, 1979; Bertsekas and Eckstein, 1988), in its Gauss-Seidel
 /// form. Two chains of bids take turns, and the person displaced in a chain bids next in it. Long chains end by
 /// successive shortest paths (Edmonds and Karp, 1972). The persons reached by a search that finds no free object are a
-/// Hall violator. Columns are reduced before (Jonker and Volgenant, 1987). Where the assignment has the least cost
-/// before the last phases, price refinement saves them (Goldberg and Kennedy, 1995). The rules are at the head of
-/// `rules.rt`.
+/// Hall violator. Columns are reduced before (Jonker and Volgenant, 1987). The rules are at the head of `rules.rt`.
 ///
 /// # Errors
 ///
@@ -225,7 +222,7 @@ pub fn solve_direct(
 ///
 /// - An object that nobody has kept begins at price 0.
 /// - A person who has kept an object and would now lose more than 1 by it leaves it, and its price is 0 too.
-/// - Where that doesn't end within a few passes over all persons, the run begins with no prices.
+/// - Where that takes more passes over all persons than their number can be halved, the run begins with no prices.
 ///
 /// A limit on bids counts from the prices that are left then: clause `limit`. With as many objects as persons these are
 /// the start's.
@@ -267,7 +264,6 @@ pub fn solve_direct_from(
 /// - before the rows are built;
 /// - within a search for a path;
 /// - while a full table is searched;
-/// - while prices are refined, which takes at most the time of some twice the bids of the phase before it;
 /// - after a no, while a bracket is made and checked.
 ///
 /// # Errors
@@ -319,7 +315,6 @@ pub fn solve_direct_watched_from<W: Watch>(
         return Ok(answer);
     }
     let market = Market::from_start(alloc, &flat, start)?;
-    let few = bids_from_start(&flat);
-    let ended = run(alloc, &flat, limits.bids, market, few, watch);
+    let ended = run(alloc, &flat, limits.bids, market, true, watch);
     concluded(alloc, problem, flat, ended)
 }

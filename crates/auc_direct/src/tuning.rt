@@ -18,9 +18,6 @@ pub(crate) const FREE_DIVISOR: u32 = 20;
 /// once.
 pub(crate) const CALM_BIDS_PER_PERSON: u64 = 2;
 
-/// Two phases take about as many bids where these differ by at most one part in this many.
-pub(crate) const STEADY_DIVISOR: u64 = 10;
-
 /// When chains of bids search, and phases ask a watch.
 pub(crate) const PACING: Pacing = Pacing {
     // A label and a place in a heap take as long as four arcs of a bid.
@@ -29,13 +26,6 @@ pub(crate) const PACING: Pacing = Pacing {
     // Some milliseconds.
     slice: 4_194_304,
 };
-
-/// Prices are refined once the next eps is at most one unit of cost divided by this. On whole costs a phase at eight
-/// times as much has mostly found a least assignment.
-pub(crate) const REFINEMENT_EPS_DIVISOR: i64 = 80;
-
-/// The number of scans that a refinement may make for each bid of the phase before it.
-pub(crate) const REFINEMENT_SCANS_PER_BID: u64 = 2;
 
 /// The number of bids a person that a run from start prices may make before it begins as a run without a start.
 pub(crate) const START_BIDS_PER_PERSON: u64 = 4;

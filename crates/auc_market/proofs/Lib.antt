@@ -16,5 +16,4 @@ mod Incumbents
 mod Example
 mod StartLaws
 mod Serving
-mod Refinement
 mod HallLaws

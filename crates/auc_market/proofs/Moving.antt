@@ -1,5 +1,5 @@
 -- Moves of a market, one after another.
-use Rattle.std.proofs.Common.{Bool, true, Err, Ok, Result, ℕ, ℤ, pos, refl, ◌+◌, ◌-◌, ◌^◌, ◌≤◌, ◌≡◌, ◌≢◌, ◌∙◌, arith, inl, inr, sym, subst}
+use Rattle.std.proofs.Common.{Err, Ok, Result, ℕ, ℤ, pos, refl, ◌+◌, ◌-◌, ◌^◌, ◌≤◌, ◌≡◌, ◌≢◌, ◌∙◌, arith, inl, inr, sym, subst}
 use Rattle.std.specs.Prelude.{IfOk, ◌⊎◌, ◌*ℤ◌, ◌≤ℤ◌}
 use Rattle.std.proofs.lemmas.Int.{ints}
 use Rattle.auc_claim.specs.declared.reason.Reason.{Reason}
@@ -7,14 +7,13 @@ use Rattle.auc_letters.specs.Price.{IsEps}
 use Rattle.auc_rows.specs.Rows.{FlatTable, IsFlatTable, scale_in}
 use Rattle.auc_market.specs.declared.ending.Ending.{Ending}
 use Rattle.auc_market.specs.Bids.{AreCounted, AreSpent, IsBidMade}
-use Rattle.auc_market.specs.Endings.{IsBlocked, IsEnding, IsToldOr}
+use Rattle.auc_market.specs.Endings.{IsBlocked, IsEnding}
 use Rattle.auc_market.specs.Eps.{IsEpsOf}
 use Rattle.auc_market.specs.Market.{IsAbove}
-use Rattle.auc_market.specs.Phases.ArePhases.{begins}
-use Rattle.auc_market.specs.Position.{IsBid, IsMove, IsPlayed, IsRefinement, IsSlice, IsTried, Law, Position, Spends, state_at}
+use Rattle.auc_market.specs.Position.{IsBid, IsMove, IsSlice, IsTried, Law, Position, Spends, state_at}
 use Rattle.auc_market.specs.Augmented.{IsAugmented}
 use Rattle.auc_market.proofs.BidsLaws.{made_all, made_more, made_none, made_on, made_raises, made_risen, made_slice, made_within}
-use Rattle.auc_market.proofs.PhasesLaws.{counted_within, one_phase, phase_more, phases_more, phases_on, within_slice}
+use Rattle.auc_market.proofs.PhasesLaws.{counted_within, within_slice}
 use Rattle.auc_graph.proofs.ValueBounds.{scaled_abs}
 
 -- a bid at this eps fits
@@ -103,7 +102,7 @@ slice_tried most before slice ending a b c law le s is =
 pub all_spent : (most left : ℕ) (a b : Position) → Law a → left ≡ 0 → Spends most left a b → IsEnding a.table most (state_at a) (Ending.Stopped Reason.Bids) b.prices b.owns
 all_spent most left a b law none s =
     let all = made_all a.table a.eps most left (state_at a) (state_at b) none s.spent in
-    (record { eps = a.eps; is_eps = law.eps; first = state_at a; before = begins (state_at a) refl; stands = law.stands; last = state_at b; run = all; prices_are = refl }, (made_raises a.table a.eps (state_at a) (state_at b) most law.sound law.eps.low law.stands.prices_are all).1)
+    (record { eps = a.eps; is_eps = law.eps; stands = law.stands; last = state_at b; run = all; prices_are = refl }, (made_raises a.table a.eps (state_at a) (state_at b) most law.sound law.eps.low law.stands.prices_are all).1)
 
 -- a part of a phase that has come to a price above the greatest
 pub blocked_at : (bids left : ℕ) (a b : Position) → Law a → Law b → Spends bids left a b → IsAbove a.table a.eps b.prices b.owns → IsBlocked a.table bids (state_at a) b.prices
@@ -111,73 +110,31 @@ blocked_at bids left a b law after s above = record {
   eps = a.eps;
   is_eps = law.eps;
   last = state_at b;
-  run = one_phase a.table bids (state_at a) (state_at b) (spent_tried bids left a b law s).phase;
+  phase = (spent_tried bids left a b law s).phase;
   stands = rw (s.table, s.eps) at after.stands;
   above = above;
   prices_are = refl;
 }
 
 -- how a slice ends that has bids left is how its phase ends
-pub slice_ending : (most before slice : ℕ) (ending : Ending) (a b c : Position) → Law a → ending ≢ Ending.Stopped Reason.Bids → slice ≤ before → Spends most before a b → IsSlice slice ending b c → IsEnding a.table most (state_at a) ending c.prices c.owns
-slice_ending most before slice ending a b c law out le s is = by ending out (rw s.table at is.ended)
+pub slice_ending : (most before slice : ℕ) (ending : Ending) (a b c : Position) → Law a → Law c → ending ≢ Ending.Stopped Reason.Bids → slice ≤ before → Spends most before a b → IsSlice slice ending b c → IsEnding a.table most (state_at a) ending c.prices c.owns
+slice_ending most before slice ending a b c law after out le s is = by ending out (slice_tried most before slice ending a b c law le s is) (rw s.table at is.ended) is.above
   where
-    by : (e : Ending) → e ≢ Ending.Stopped Reason.Bids → IsEnding a.table slice (state_at b) e c.prices c.owns → IsEnding a.table most (state_at a) e c.prices c.owns
-    by Ending.Sold other h = h
-    by (Ending.Stopped Reason.Bids) other h = absurd (other refl)
-    by (Ending.Stopped Reason.Ceiling) other h =
-        let few : slice ≤ most = (let sum = s.spent.sum in omega (arith, le, sum)) in
-        let first = one_phase a.table most (state_at a) (state_at b) (spent_tried most before a b law s).phase in
-        record {
-          eps = h.eps;
-          is_eps = h.is_eps;
-          last = h.last;
-          run = phases_on a.table most (state_at a) (state_at b) h.last first (phases_more a.table slice most (state_at b) h.last few h.run);
-          stands = h.stands;
-          above = h.above;
-          prices_are = h.prices_are;
-        }
-    by (Ending.Stopped Reason.Posts) other h = absurd h
-    by (Ending.Stopped Reason.Trail) other h = absurd h
-    by (Ending.Stopped Reason.Mail) other h = absurd h
-
--- a phase of at most this number of bids is one of at most more, where it hasn't ended for its bids or was stopped
-pub played_more : (few bids : ℕ) (before after : Bool) (ending : Ending) (a b : Position) → few ≤ bids → (ending ≡ Ending.Stopped Reason.Bids → after ≡ true) → IsPlayed few before after ending a b → IsPlayed bids before after ending a b
-played_more few bids before after ending a b le stop p = record {
-  tried = record {
-    table = p.tried.table;
-    eps = p.tried.eps;
-    phase = phase_more a.table few bids (state_at a) (state_at b) le p.tried.phase;
-    risen = p.tried.risen;
-  };
-  sold = p.sold;
-  ended = by ending stop p.ended;
-  above = p.above;
-}
-  where
-    by : (e : Ending) → (e ≡ Ending.Stopped Reason.Bids → after ≡ true) → IsToldOr before after e (IsEnding a.table few (state_at a) e b.prices b.owns) → IsToldOr before after e (IsEnding a.table bids (state_at a) e b.prices b.owns)
-    by e stopped (inl told) = inl told
-    by Ending.Sold stopped (inr is) = inr is
-    by (Ending.Stopped Reason.Bids) stopped (inr is) = inl (stopped refl, refl)
-    by (Ending.Stopped Reason.Ceiling) stopped (inr is) =
-        let h = is.1 in
-        inr (
-          is.0,
-          record {
-            eps = h.eps;
-            is_eps = h.is_eps;
-            last = h.last;
-            run = phases_more a.table few bids (state_at a) h.last le h.run;
-            stands = h.stands;
-            above = h.above;
-            prices_are = h.prices_are;
-          },
-        )
-    by (Ending.Stopped Reason.Posts) stopped (inr is) = absurd is.1
-    by (Ending.Stopped Reason.Trail) stopped (inr is) = absurd is.1
-    by (Ending.Stopped Reason.Mail) stopped (inr is) = absurd is.1
-
-pub no_refinement : (p : Position) → IsRefinement p p
-no_refinement p = record { table = refl; refined = state_at p; is = record { owns = refl; risen = omega (arith, ints) }; after = inl refl; risen = omega (arith, ints) }
+    by : (e : Ending) → e ≢ Ending.Stopped Reason.Bids → IsTried most a c → IsEnding a.table slice (state_at b) e c.prices c.owns → (e ≡ Ending.Stopped Reason.Ceiling → IsAbove c.table c.eps c.prices c.owns) → IsEnding a.table most (state_at a) e c.prices c.owns
+    by Ending.Sold other tried h above = h
+    by (Ending.Stopped Reason.Bids) other tried h above = absurd (other refl)
+    by (Ending.Stopped Reason.Ceiling) other tried h above = record {
+      eps = a.eps;
+      is_eps = law.eps;
+      last = state_at c;
+      phase = tried.phase;
+      stands = rw (tried.table, tried.eps) at after.stands;
+      above = rw (tried.table, tried.eps) at above refl;
+      prices_are = refl;
+    }
+    by (Ending.Stopped Reason.Posts) other tried h above = absurd h
+    by (Ending.Stopped Reason.Trail) other tried h above = absurd h
+    by (Ending.Stopped Reason.Mail) other tried h above = absurd h
 
 -- ---- what holds of a result
 

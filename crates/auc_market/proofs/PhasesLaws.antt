@@ -1,5 +1,5 @@
 -- Phases one after another are phases.
-use Rattle.std.proofs.Common.{◌≡◌, ◌∙◌, ℕ, ℤ, ◌+◌, ◌≤◌, List, ap, arith, refl, replicate, subst, sym}
+use Rattle.std.proofs.Common.{◌≡◌, ◌∙◌, ℕ, ℤ, ◌+◌, ◌≤◌, List, ap, arith, inl, inr, refl, replicate, subst, sym}
 use Rattle.auc_claim.specs.declared.reason.Reason.{Reason}
 use Rattle.auc_rows.specs.declared.arc.ShortArc.{ShortArc}
 use Rattle.auc_rows.specs.Rows.{FlatTable}
@@ -7,15 +7,19 @@ use Rattle.auc_market.proofs.MarketLaws.{replicate_default}
 use Rattle.auc_market.specs.declared.ending.Ending.{Ending}
 use Rattle.auc_market.specs.Bids.{AreCounted, AreMadeWithin, AreSpent, State}
 use Rattle.auc_market.specs.Market.{no_own, own_at}
-use Rattle.auc_market.specs.Phases.{ArePhases, IsOpened, IsPhase}
-use Rattle.auc_market.specs.Phases.ArePhases.{begins, opens, plays, refines}
+use Rattle.auc_market.specs.Phases.{AreAnew, ArePhases, IsOpened, IsPhase}
+use Rattle.auc_market.specs.Phases.AreAnew.{begins, plays}
 use Rattle.auc_market.proofs.BidsLaws.{makes_on}
 
-pub phases_on : (r : FlatTable) (bids : ℕ) (s t u : State) → ArePhases r bids s t → ArePhases r bids t u → ArePhases r bids s u
-phases_on r bids s t u first (begins v same) = subst (ArePhases r bids s) (sym same) first
-phases_on r bids s t u first (plays v w run phase) = plays v w (phases_on r bids s t v first run) phase
-phases_on r bids s t u first (opens v w run opened) = opens v w (phases_on r bids s t v first run) opened
-phases_on r bids s t u first (refines v w run refined) = refines v w (phases_on r bids s t v first run) refined
+pub anew_on : (r : FlatTable) (bids : ℕ) (s t u : State) → AreAnew r bids s t → AreAnew r bids t u → AreAnew r bids s u
+anew_on r bids s t u first (begins v same) = subst (AreAnew r bids s) (sym same) first
+anew_on r bids s t u first (plays v w x run opened phase) = plays v w x (anew_on r bids s t v first run) opened phase
+
+pub phases_on : (r : FlatTable) (bids : ℕ) (s t u : State) → ArePhases r bids s t → AreAnew r bids t u → ArePhases r bids s u
+phases_on r bids s t u run anew = record { kept = run.kept; first = run.first; anew = anew_on r bids run.kept t u run.anew anew }
+
+pub anew_phases : (r : FlatTable) (bids : ℕ) (s t : State) → AreAnew r bids s t → ArePhases r bids s t
+anew_phases r bids s t anew = record { kept = s; first = inl refl; anew = anew }
 
 -- however a phase ends, it has made at most the allowed number of bids
 pub counted_within : (r : FlatTable) (eps : ℤ) (most : ℕ) (ending : Ending) (s t : State) → AreCounted r eps most ending s t → AreMadeWithin r eps most s t
@@ -34,23 +38,11 @@ within_slice r eps most left slice s t u spent le made = record {
   run = makes_on r eps s t u spent.made made.made spent.run made.run;
 }
 
-pub within_more : (r : FlatTable) (eps : ℤ) (most more : ℕ) (s t : State) → most ≤ more → AreMadeWithin r eps most s t → AreMadeWithin r eps more s t
-within_more r eps most more s t le made = record { made = made.made; few = (let a = made.few in omega (arith, a, le)); run = made.run }
-
 pub one_phase : (r : FlatTable) (bids : ℕ) (s t : State) → IsPhase r bids s t → ArePhases r bids s t
-one_phase r bids s t phase = plays s t (begins s refl) phase
+one_phase r bids s t phase = record { kept = t; first = inr phase; anew = begins t refl }
 
-pub phase_more : (r : FlatTable) (few bids : ℕ) (s t : State) → few ≤ bids → IsPhase r few s t → IsPhase r bids s t
-phase_more r few bids s t le phase = record { eps = phase.eps; is_eps = phase.is_eps; stands = phase.stands; made = within_more r phase.eps few bids s t le phase.made }
-
-pub phases_more : (r : FlatTable) (few bids : ℕ) (s t : State) → few ≤ bids → ArePhases r few s t → ArePhases r bids s t
-phases_more r few bids s t le (begins v same) = begins v same
-phases_more r few bids s t le (plays v w run phase) = plays v w (phases_more r few bids s v le run) (phase_more r few bids v w le phase)
-phases_more r few bids s t le (opens v w run opened) = opens v w (phases_more r few bids s v le run) opened
-phases_more r few bids s t le (refines v w run refined) = refines v w (phases_more r few bids s v le run) refined
+pub one_anew : (r : FlatTable) (bids : ℕ) (s t u : State) → IsOpened s t → IsPhase r bids t u → AreAnew r bids s u
+one_anew r bids s t u opened phase = plays s t u (begins s refl) opened phase
 
 pub opened_is : (s t : State) (n : ℕ) → t.prices ≡ s.prices → t.owns ≡ replicate n no_own → IsOpened s t
 opened_is s t n prices owns = record { prices = prices; none = λ i. ap (λ (xs : List ShortArc). (own_at xs i).object) owns ∙ ap (λ (a : ShortArc). a.object) (replicate_default n i no_own) }
-
-pub opened_phase : (r : FlatTable) (few bids : ℕ) (s t u : State) → IsOpened s t → few ≤ bids → IsPhase r few t u → ArePhases r bids s u
-opened_phase r few bids s t u opened le phase = plays t u (opens s t (begins s refl) opened) (phase_more r few bids t u le phase)

@@ -8,45 +8,42 @@ use Rattle.auc_rows.specs.declared.arc.ShortArc.{ShortArc}
 use Rattle.auc_rows.specs.Rows.{FlatTable}
 use Rattle.auc_market.specs.declared.ending.Ending.{Ending}
 use Rattle.auc_market.specs.Bids.{AreMade, State}
-use Rattle.auc_market.specs.Phases.{ArePhases}
+use Rattle.auc_market.specs.Phases.{IsPhase, IsReady}
 use Rattle.auc_market.specs.Eps.{IsEpsOf}
 use Rattle.auc_market.specs.Market.{HaveObjects, IsAbove, Stands}
 
--- The bids of a phase have run out: exactly the limit of bids leads to these prices. The phase began at a state to
--- which earlier phases of the run have led.
-pub record HaveRunOut (r : FlatTable) (bids : ℕ) (begun : State) (prices : List ℤ) : Type 0 where
+-- The bids of a phase that began at this state have run out: exactly the limit of bids leads to these prices.
+pub record HaveRunOut (r : FlatTable) (bids : ℕ) (s : State) (prices : List ℤ) : Type 0 where
   pub eps : ℤ
   pub is_eps : IsEpsOf r eps
-  pub first : State
-  pub before : ArePhases r bids begun first
-  pub stands : Stands r eps first.prices first.holders first.owns
+  pub stands : Stands r eps s.prices s.holders s.owns
   pub last : State
-  pub run : AreMade r eps first bids last
+  pub run : AreMade r eps s bids last
   pub prices_are : prices ≡ last.prices
 
--- The phases of a run have led to a free person whose least bid would be above the greatest price.
-pub record IsBlocked (r : FlatTable) (bids : ℕ) (begun : State) (prices : List ℤ) : Type 0 where
+-- A phase that began at this state has led to a free person whose least bid would be above the greatest price.
+pub record IsBlocked (r : FlatTable) (bids : ℕ) (s : State) (prices : List ℤ) : Type 0 where
   pub eps : ℤ
   pub is_eps : IsEpsOf r eps
   pub last : State
-  pub run : ArePhases r bids begun last
+  pub phase : IsPhase r bids s last
   pub stands : Stands r eps last.prices last.holders last.owns
   pub above : IsAbove r eps last.prices last.owns
   pub prices_are : prices ≡ last.prices
 
--- The limits that may stop a phase. Either it has made all its bids, and the prices add up to at least that many more
--- than those that the run began with. Or a free person's least bid would be above the greatest price.
+-- The limits that may stop a phase that began at this state. Either it has made all its bids, and the prices add up to
+-- at least that many more. Or a free person's least bid would be above the greatest price.
 abbrev pub IsLimit : FlatTable → ℕ → State → Reason → List ℤ → Type 0
-IsLimit r bids begun Reason.Bids prices = HaveRunOut r bids begun prices × ((total begun.prices +ℤ pos bids) ≤ℤ total prices)
-IsLimit r bids begun Reason.Ceiling prices = IsBlocked r bids begun prices
-IsLimit r bids begun Reason.Posts prices = ⊥
-IsLimit r bids begun Reason.Trail prices = ⊥
-IsLimit r bids begun Reason.Mail prices = ⊥
+IsLimit r bids s Reason.Bids prices = HaveRunOut r bids s prices × ((total s.prices +ℤ pos bids) ≤ℤ total prices)
+IsLimit r bids s Reason.Ceiling prices = IsBlocked r bids s prices
+IsLimit r bids s Reason.Posts prices = ⊥
+IsLimit r bids s Reason.Trail prices = ⊥
+IsLimit r bids s Reason.Mail prices = ⊥
 
 -- each person has an object, or a limit has stopped the phase
 abbrev pub IsEnding : FlatTable → ℕ → State → Ending → List ℤ → List ShortArc → Type 0
-IsEnding r bids begun Ending.Sold prices owns = HaveObjects (length r.rows) owns
-IsEnding r bids begun (Ending.Stopped reason) prices owns = IsLimit r bids begun reason prices
+IsEnding r bids s Ending.Sold prices owns = HaveObjects (length r.rows) owns
+IsEnding r bids s (Ending.Stopped reason) prices owns = IsLimit r bids s reason prices
 
 -- the reasons for which a direct run may be stopped; a watch stops it as if its bids had run out
 abbrev pub IsOwnReason : Reason → Type 0
@@ -73,10 +70,23 @@ abbrev pub IsLeft : FlatTable → Ending → List ℤ → List ℕ → List Shor
 IsLeft r Ending.Sold prices holders owns = Stands r (pos 1) prices holders owns × HaveObjects (length r.rows) owns
 IsLeft r (Ending.Stopped reason) prices holders owns = (eps : ℤ) × Stands r eps prices holders owns × IsOwnReason reason
 
--- if a phase was stopped, a limit has stopped it
+-- if a phase that began at this state was stopped, a limit has stopped it
 abbrev pub IsStopped : FlatTable → ℕ → State → Ending → List ℤ → Type 0
-IsStopped r bids begun Ending.Sold prices = Unit {0}
-IsStopped r bids begun (Ending.Stopped reason) prices = IsLimit r bids begun reason prices
+IsStopped r bids s Ending.Sold prices = Unit {0}
+IsStopped r bids s (Ending.Stopped reason) prices = IsLimit r bids s reason prices
+
+-- A limit has stopped a phase of a run. The prices that the phase began with add up to no less than those of the run's
+-- start.
+pub record IsLimitOfRun (r : FlatTable) (bids : ℕ) (begun : State) (reason : Reason) (prices : List ℤ) : Type 0 where
+  pub first : State
+  pub ready : IsReady r bids begun first
+  pub risen : total begun.prices ≤ℤ total first.prices
+  pub limit : IsLimit r bids first reason prices
+
+-- if a run was stopped, a limit has stopped one of its phases
+abbrev pub IsRunStopped : FlatTable → ℕ → State → Ending → List ℤ → Type 0
+IsRunStopped r bids begun Ending.Sold prices = Unit {0}
+IsRunStopped r bids begun (Ending.Stopped reason) prices = IsLimitOfRun r bids begun reason prices
 
 -- The ending of a run under a watch, by whether the watch had said no before it, and whether it has after it. Either it
 -- has said no, and the run ends as one whose bids have run out; or nothing has changed about that, and the condition

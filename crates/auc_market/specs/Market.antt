@@ -45,14 +45,6 @@ pub record Stands (r : FlatTable) (eps : ℤ) (prices : List ℤ) (holders : Lis
   pub holds : (i : ℕ) → (own_at owns i).object ≢ NOBODY → holder_at holders (own_at owns i).object ≡ i
   pub slack : (i : ℕ) → (own_at owns i).object ≢ NOBODY → IsSlack r eps prices i (own_at owns i)
 
--- prices have risen or stayed, and no person has got or lost an object
-pub record IsLifted (prices new : List ℤ) (holders held : List ℕ) (owns had : List ShortArc) : Type 0 where
-  pub many : length new ≡ length prices
-  pub within : All IsPrice new
-  pub higher : (k : ℕ) → price_at prices k ≤ℤ price_at new k
-  pub holders_are : held ≡ holders
-  pub owns_are : had ≡ owns
-
 -- each of the first n persons has an object
 abbrev pub HaveObjects : ℕ → List ShortArc → Type 0
 HaveObjects n owns = (i : ℕ) → i < n → (own_at owns i).object ≢ NOBODY

@@ -1,5 +1,5 @@
 -- What contracts see of a market, its invariants, and the result of each move.
-use Rattle.std.specs.Prelude.{Bool, true, ℕ, ℤ, pos, ◌≡◌, ◌≢◌, ◌⊎◌, ◌<◌, ◌≤◌, ◌≤ℤ◌, List, length}
+use Rattle.std.specs.Prelude.{Bool, true, ℕ, ℤ, pos, ◌≡◌, ◌≢◌, ◌<◌, ◌≤◌, ◌≤ℤ◌, List, length}
 use Rattle.auc_claim.specs.declared.reason.Reason.{Reason}
 use Rattle.auc_graph.specs.Assignment.{total}
 use Rattle.auc_rows.specs.declared.arc.ShortArc.{ShortArc}
@@ -14,7 +14,7 @@ use Rattle.auc_market.specs.Endings.{IsEnding, IsSold, IsToldOr}
 use Rattle.auc_market.specs.Eps.{IsEpsOf}
 use Rattle.auc_market.specs.Incumbent.{IsIncumbent}
 use Rattle.auc_market.specs.Market.{HaveAllBut, HaveObjects, IsAbove, IsAwarded, Stands, own_at}
-use Rattle.auc_market.specs.Phases.{IsOpened, IsPhase, IsRefined}
+use Rattle.auc_market.specs.Phases.{IsPhase}
 use Rattle.auc_market.specs.Shortlist.{Kept}
 use Rattle.auc_market.specs.Augmented.{IsAugmented}
 
@@ -137,19 +137,6 @@ pub record IsBegun (eps : ℤ) (old new : Position) : Type 0 where
   pub prices : new.prices ≡ old.prices
   pub none : (i : ℕ) → (own_at new.owns i).object ≡ NOBODY
   pub incumbent : HaveObjects (length old.owns) old.owns → (new.has_incumbent ≡ true) × (new.incumbent ≡ old.owns)
-
--- price refinement: each person keeps the object, or afterwards no person holds one
-pub record IsRefinement (old new : Position) : Type 0 where
-  pub table : new.table ≡ old.table
-  pub refined : State
-  pub is : IsRefined (state_at old) refined
-  pub after : (state_at new ≡ refined) ⊎ IsOpened refined (state_at new)
-  pub risen : total old.prices ≤ℤ total new.prices
-
--- a complete price refinement: at eps 1 each person still holds an object, and so is within 1 of the best
-pub record IsRefinedWhole (new : Position) : Type 0 where
-  pub eps_is : new.eps ≡ pos 1
-  pub have : HaveObjects (length new.table.rows) new.owns
 
 -- What a market hands on at its end. Sold: its prices, holders and arcs. Stopped: the same prices, with the incumbent
 -- if there is one, else with what is held.

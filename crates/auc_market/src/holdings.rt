@@ -1,7 +1,7 @@
 //! The state of a phase: the prices, the holder of each object, and the arc by which each person holds an object.
 
-ghost use Rattle.std.specs.Prelude.{◌≡◌, ◌≢◌, ◌<◌, ◌≤◌, ℕ, pos, length, replicate, set, IfOk};
-ghost use Rattle.auc_market.specs.Market.{holder_at, no_own, own_at};
+ghost use Rattle.std.specs.Prelude.{◌≡◌, ◌≢◌, ◌<◌, ◌≤◌, ℕ, pos, true, false, length, replicate, set, IfOk};
+ghost use Rattle.auc_market.specs.Market.{HaveObjects, holder_at, no_own, own_at};
 
 use crate::bid::Bid;
 use crate::scan::wrapping_value;
@@ -137,6 +137,19 @@ impl Holdings {
             }
         }
         until
+    }
+
+    /// Whether each person has an object.
+    pub fn all_have(&self) -> bool
+        ensures yes { result ≡ true → HaveObjects (length self.now.owns.items) self.now.owns.items }
+        ensures no { result ≡ false → HaveObjects (length self.now.owns.items) self.now.owns.items → ⊥ }
+    {
+        for person in 0..self.owns.len() {
+            if self.owns[person].object == NOBODY {
+                return false;
+            }
+        }
+        true
     }
 
     /// The holder of an object; NOBODY where there is none.

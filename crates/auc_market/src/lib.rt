@@ -1,7 +1,7 @@
 //! The kernel of the direct solver: prices, holders, and all moves that change them.
 //!
 //! The method is the auction algorithm (Bertsekas, 1979) in its Gauss-Seidel form: a bid is an award at once. Shortest
-//! augmenting paths by Dijkstra's search and price refinement (Goldberg and Kennedy, 1995) are moves too.
+//! augmenting paths by Dijkstra's search are moves too.
 //!
 //! A bid takes O(arcs of the person), or O(1) by a candidate list; a path at most O(arcs * log arcs).
 //!
@@ -10,7 +10,7 @@
 //!
 //! `market.rt` has the laws and the moves between phases, `phase.rt` a phase. Chains of bids are in `turns.rt` and
 //! `chain.rt`, a bid in `step.rt`, and `pace.rt` says when a search ends a chain. `path.rt` takes augmenting paths,
-//! `refine.rt` refines prices, and `starts.rt` seats persons at start prices.
+//! and `starts.rt` seats persons at start prices.
 #![tactic(auto)]
 
 mod augmented;
@@ -27,8 +27,7 @@ mod market;
 mod pace;
 mod path;
 mod phase;
-mod queue;
-mod refine;
+mod sample;
 mod scan;
 mod search;
 mod shortlist;
@@ -45,5 +44,7 @@ pub use halt::Halt;
 pub use holdings::Holdings;
 pub use market::Market;
 pub use pace::{Pace, Pacing};
+pub use phase::Attempt;
+pub use sample::Sample;
 pub use starts::tried;
 pub use watch::{Progress, Watch};

@@ -14,7 +14,6 @@
 //!
 //! - [`Market::bid`]: a bid is an award, as in Gauss-Seidel.
 //! - [`Market::path`]: a shortest augmenting path, or the Hall violator that the search has reached.
-//! - [`Market::refine`]: price refinement.
 //! - [`Market::open`]: the next eps.
 //!
 //! When each is made is strategy, and no answer depends on it. Starts are seated before there is a market (`starts.rt`,
@@ -27,17 +26,15 @@ ghost use Rattle.auc_market.specs.Endings.{IsStart};
 ghost use Rattle.auc_market.specs.Eps.{IsEpsOf};
 ghost use Rattle.auc_market.specs.Halts.{IsHalt};
 ghost use Rattle.auc_market.specs.Market.{IsAbove, Stands, own_at};
-ghost use Rattle.auc_market.specs.Position.{AreHandedOn, Begins, IsBegun, IsBid, IsFree, IsMove, IsRefinedWhole};
-ghost use Rattle.auc_market.specs.Position.{IsRefinement, Law};
+ghost use Rattle.auc_market.specs.Position.{AreHandedOn, Begins, IsBegun, IsBid, IsFree, IsMove, Law};
 
 use crate::augmented::Augmented;
-use crate::bid::scaled_spread;
 use crate::ending::Ending;
 use crate::halt::Halt;
 use crate::holdings::{Holdings, NO_OWN};
 use crate::incumbent::Incumbent;
 use crate::lists::Lists;
-use crate::scan::wrapping_value_of;
+use crate::sample::Sample;
 use crate::search::Search;
 use auc_letters::{LAST_EPS, NOBODY};
 use auc_rows::FlatRows;
@@ -160,59 +157,11 @@ impl<'a> Market<'a> {
         held
     }
 
-    /// The mean spread of the rows at the present prices, in scaled costs, and at least 1: eps of a phase may be as
-    /// great. At least `sample` persons are sampled, or all.
-    pub fn spread(&self, sample: u32) -> i64
-        ensures { IsEpsOf self.now.table result }
+    /// What a sample of the rows tells, at the present prices. At least `least` persons are sampled, or all.
+    pub fn sample(&self, least: u32) -> Sample
+        ensures { IsEpsOf self.now.table result.spread }
     {
-        let rows = self.rows;
-        let scale = rows.scale();
-        let apart = rows.persons().checked_div(sample).unwrap_or(1).max(1);
-        let mut sum = 0i64;
-        let mut scanned = 0i64;
-        for person in 0..rows.persons() {
-            if person % apart != 0 {
-                continue;
-            }
-            let mut low = i64::MAX;
-            let mut high = i64::MIN;
-            for arc in rows.row(person) {
-                let value = wrapping_value_of(scale, *arc, self.holdings.prices.as_slice());
-                low = low.min(value);
-                high = high.max(value);
-            }
-            sum = sum.saturating_add(high.saturating_sub(low).max(0));
-            scanned = scanned.saturating_add(1);
-        }
-        let mean = sum.checked_div(scanned).unwrap_or(0);
-        mean.min(scaled_spread(rows)).max(LAST_EPS)
-    }
-
-    /// Whether most persons have two best arcs of the same value, at the present prices. At least `sample` persons are
-    /// sampled, or all.
-    pub fn has_ties(&self, sample: u32) -> bool {
-        let rows = self.rows;
-        let apart = rows.persons().checked_div(sample).unwrap_or(1).max(1);
-        let mut sampled = 0u32;
-        let mut ties = 0u32;
-        for person in 0..rows.persons() {
-            if person % apart != 0 {
-                continue;
-            }
-            let mut least = i64::MAX;
-            let mut second = i64::MAX;
-            for arc in rows.row(person) {
-                let prices = self.holdings.prices.as_slice();
-                let value = wrapping_value_of(rows.scale(), *arc, prices);
-                second = second.min(value.max(least));
-                least = least.min(value);
-            }
-            sampled = sampled.saturating_add(1);
-            if least == second {
-                ties = ties.saturating_add(1);
-            }
-        }
-        ties > sampled / 2
+        self.holdings.sample(self.rows, least)
     }
 
     /// The first person from here on, below `until`, who holds no object and is neither of these two; `until` where
@@ -260,29 +209,6 @@ impl<'a> Market<'a> {
         let search = &mut self.search;
         self.holdings
             .find_path(self.alloc, rows, self.eps, person, search)
-    }
-
-    /// Price refinement: raises prices, with at most `scans` scans of persons, until each person is within 1 of the
-    /// best. The assignment has the least cost then, and eps is the last one. Returns whether that was reached. Where
-    /// the refinement was begun but not finished, nobody holds anything afterwards.
-    pub fn refine(&mut self, scans: u64) -> Result<bool, AllocError>
-        requires square { self.old.table.objects ≡ length self.old.table.rows }
-        ensures refined { OnOk result (IsRefinement self.old self.new) }
-        ensures whole { IfOk result (λ b. b ≡ true → IsRefinedWhole self.new) }
-    {
-        if scans == 0 {
-            return Ok(false);
-        }
-        let rows = self.rows;
-        let lists = &mut self.lists;
-        let is_least = self.holdings.refine(self.alloc, rows, scans, lists)?;
-        if !is_least {
-            self.holdings.set_aside(&mut self.incumbent);
-            self.holdings.open();
-            return Ok(false);
-        }
-        self.eps = LAST_EPS;
-        Ok(true)
     }
 
     /// Begins the next phase at this eps: prices stay, and nobody holds anything.

@@ -1,12 +1,12 @@
 //! A free person takes an augmenting path that a search has proposed. The proposal is tried: prices rise only where
 //! each holder stays within eps of the best, and a person takes an object only where that keeps the person within eps.
 
-ghost use Rattle.std.specs.Prelude.{◌≡◌, ◌≢◌, ◌<◌, ℤ, List, IsTrue, false, length};
+ghost use Rattle.std.specs.Prelude.{◌≡◌, ◌<◌, ℤ, List, IsTrue, length};
 ghost use Rattle.auc_letters.specs.Price.{IsEps};
 ghost use Rattle.auc_rows.specs.Rows.{IsFlatTable};
 ghost use Rattle.auc_letters.specs.declared.limits.TheConstants.{NOBODY};
 ghost use Rattle.auc_market.specs.Market.{AreHigher, AreUnsold, Stands, own_at};
-ghost use Rattle.auc_market.specs.Path.{AreRaised, AreRises, AreWithin, IsWithin};
+ghost use Rattle.auc_market.specs.Path.{AreRaised, AreRises, AreWithin};
 ghost use Rattle.auc_market.specs.Starts.{any_eps};
 ghost use Rattle.auc_market.specs.Augmented.{IsAugmented};
 
@@ -67,20 +67,6 @@ impl Holdings {
             }
             self.prices[rise.object as usize] = rise.before;
         }
-    }
-
-    /// Whether a person is within eps of the best, where the person has an object.
-    pub(crate) fn is_within(&self, rows: &FlatRows, eps: i64, person: u32) -> bool
-        requires eps { IsEps eps }
-        requires stands { Stands rows.now any_eps self.now.prices.items self.now.holders.items self.now.owns.items }
-        ensures yes { IsTrue result → IsWithin rows.now eps self.now.prices.items self.now.owns.items person }
-        ensures no { result ≡ false → (own_at self.now.owns.items person).object ≢ NOBODY }
-    {
-        if person >= rows.persons() {
-            return true;
-        }
-        let own = self.owns[person as usize];
-        own.object == NOBODY || is_slack(rows, eps, self.prices.as_slice(), person, own)
     }
 
     /// Whether each holder of these objects is within eps of the best.

@@ -17,9 +17,6 @@ use auc_letters::{LAST_EPS, NOBODY};
 use auc_rows::FlatRows;
 use std::alloc::{AllocError, Global};
 
-/// The number of passes over all persons before the start prices are given up.
-const START_PASSES: u32 = 8;
-
 /// The prices before anybody holds anything: the start prices where there are as many objects as persons, else 0.
 fn prices_before(alloc: Global, rows: &FlatRows, start: &[i64]) -> Result<Vec<i64>, AllocError>
     requires start { ArePricesOf rows.now start.now }
@@ -106,7 +103,7 @@ impl Holdings {
     }
 
     /// Persons leave objects until each who has one is within eps of the best. Nobody keeps anything where that takes
-    /// too long.
+    /// more passes over all persons than their number can be halved.
     fn settle(&mut self, rows: &FlatRows, eps: i64)
         requires arcs { EachHasArc rows.now }
         requires eps { IsEps eps }
@@ -114,7 +111,7 @@ impl Holdings {
         ensures stands { Stands rows.now eps self.new.prices.items self.new.holders.items self.new.owns.items }
         ensures kept { AreKept self.old.prices.items self.new.prices.items }
     {
-        for _ in 0..START_PASSES {
+        for _ in 0..u32::BITS - rows.persons().leading_zeros() {
             if !self.release(rows, eps) {
                 return;
             }

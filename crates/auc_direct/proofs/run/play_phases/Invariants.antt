@@ -12,4 +12,4 @@ invariant-loop-played g l = record {
 
 -- only the first phase may be given up, and after it eps falls
 abbrev pub decreases-loop-played : goal.decreases-loop-played
-decreases-loop-played g l = unsigned_abs l.eps + ((2 ^ 64 - 1) - l.few) * (2 ^ 62)
+decreases-loop-played g l = unsigned_abs l.eps + ((2 ^ 64 - 1) - l.attempt.bids) * (2 ^ 62)

@@ -9,7 +9,7 @@ use Rattle.auc_market.specs.Position.{IsPlayed}
 use Rattle.auc_market.proofs.CeilingLaws.{wide_played}
 use Rattle.auc_market.proofs.MarketLaws.{replicate_default}
 use Rattle.auc_market.proofs.Opening.{start_none}
-use Rattle.auc_direct.proofs.Running.{outcome_of, over_at, played_at, plays_none, plays_tried, zero_start}
+use Rattle.auc_direct.proofs.Running.{outcome_of_one, zero_start}
 use Rattle.auc_direct.proofs.run.run_from_zero.Goals as goal
 
 pub returns-in_err-prices-clause-outcome : goal.returns-in_err-prices-clause-outcome
@@ -20,19 +20,12 @@ returns-in_err-ending-clause-outcome g c = (replicate c.args.rows.now.objects (p
 
 pub returns-clause-outcome : goal.returns-clause-outcome
 returns-clause-outcome g c =
-    let bids = c.args.bids in
     let r = c.args.rows.now in
     let a = c.in_ok-market.market in
-    let b = c.play.new.self in
     let e = c.in_ok-market.ensures.begins in
-    let before = g.W.Watch.has_stopped c.args.watch.now in
-    let after = g.W.Watch.has_stopped c.play.new.watch in
-    let ending = c.in_ok-ending.ending in
-    let played = c.in_ok-ending.ensures.played in
     let zeros : c.in_ok-prices.prices.items ≡ replicate c.objects.result (pos 0) = c.in_ok-prices.ensures.items_if_clones_equal (λ y e. e) in
     let start : IsStart r (pos 1) c.in_ok-prices.prices.items = start_none r (pos 1) c.objects.result c.in_ok-prices.prices.items c.objects.ensures.objects zeros (inr refl) in
-    let over = over_at a.eps bids before before after ending a a b refl c.law-2.ensures (plays_none bids a) (plays_tried bids a b played.tried) (played_at bids before after ending a b played) (λ _. e.eps) in
-    (a.prices, rw c.in_ok-market.ensures.prices start, outcome_of r bids before after ending a b c.into_holdings.result.prices.items c.into_holdings.result.holders.items c.into_holdings.result.owns.items e.table over c.into_holdings.ensures)
+    (a.prices, rw c.in_ok-market.ensures.prices start, outcome_of_one r c.args.bids (g.W.Watch.has_stopped c.args.watch.now) (g.W.Watch.has_stopped c.play.new.watch) c.in_ok-ending.ending a c.play.new.self c.into_holdings.result.prices.items c.into_holdings.result.holders.items c.into_holdings.result.owns.items e.table e.eps c.law-2.ensures c.in_ok-ending.ensures.played c.into_holdings.ensures)
 
 pub returns-clause-ceiling : goal.returns-clause-ceiling
 returns-clause-ceiling g c = λ at choice spread matching. (

@@ -60,8 +60,8 @@ fn play_anew<W: Watch>(
 }
 
 /// A phase from the prices of the market, in which nobody keeps an object, and others after it, each from the prices of
-/// the one before. The first eps is chosen by the mean spread of a row. It ends after the phase at the last eps, or after the first that a limit stops. Each phase may make
-/// `bids` bids.
+/// the one before. The first eps is chosen by the mean spread of a row. It ends after the phase at the last eps, or
+/// after the first that a limit stops. Each phase may make `bids` bids.
 fn play_phases<W: Watch>(
     market: &mut Market<'_>,
     rows: &FlatRows,

@@ -157,7 +157,7 @@ impl<'a> Market<'a> {
         held
     }
 
-    /// What a sample of the rows tells, at the present prices. At least `least` persons are sampled, or all.
+    /// The spread and the ties of the rows of at least `least` persons, or of all, at the present prices.
     pub fn sample(&self, least: u32) -> Sample
         ensures { IsEpsOf self.now.table result.spread }
     {

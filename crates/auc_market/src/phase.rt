@@ -15,7 +15,7 @@ use auc_claim::Reason;
 /// When a phase that is tried is given up.
 #[derive(Clone, Copy)]
 pub struct Attempt {
-    /// The number of bids after which it is judged. With the greatest number it is never given up.
+    /// The number of bids after which it is judged. With 0 it isn't tried, with the greatest number never given up.
     pub bids: u64,
     /// It goes on then where at most so many persons are free,
     pub free: u32,
@@ -75,6 +75,9 @@ impl<'a> Market<'a> {
             ≡ W.has_stopped watch.old)) }
     {
         self.law();
+        if attempt.bids == 0 {
+            return Ok(None);
+        }
         let eps = self.eps;
         pace.begin(eps);
         let mut left = bids;

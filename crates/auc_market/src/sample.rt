@@ -1,4 +1,4 @@
-//! What a sample of the rows tells at the present prices, for whoever chooses eps.
+//! The spread and the ties of a sample of the rows, at the present prices: by these eps is chosen.
 
 ghost use Rattle.std.specs.Prelude.{◌<◌, length};
 ghost use Rattle.auc_market.specs.Eps.{IsEpsOf};
@@ -9,7 +9,7 @@ use crate::scan::wrapping_value_of;
 use auc_letters::LAST_EPS;
 use auc_rows::FlatRows;
 
-/// What a sample of the rows tells.
+/// The spread and the ties of a sample of the rows.
 #[derive(Clone, Copy)]
 pub struct Sample {
     /// The mean spread of a row, in scaled costs, and at least 1: eps of a phase may be as great.
@@ -47,7 +47,7 @@ impl Holdings {
         ends
     }
 
-    /// What a sample of at least `least` persons tells, or of all.
+    /// The spread and the ties of the rows of at least `least` persons, or of all.
     pub(crate) fn sample(&self, rows: &FlatRows, least: u32) -> Sample
         ensures { IsEpsOf rows.now result.spread }
     {

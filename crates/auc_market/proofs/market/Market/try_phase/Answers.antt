@@ -69,3 +69,6 @@ returns-then-left-eq0-clause-played g c =
 -- the attempt is given up
 pub returns-then-few-eq0-2-clause-tried : goal.returns-then-few-eq0-2-clause-tried
 returns-then-few-eq0-2-clause-tried g c = spent_tried c.args.bids c.loop-few.left c.args.self.now c.loop-few.self c.law.ensures c.loop-few.invariant.spends
+
+pub returns-then-attempt-eq0-clause-tried : goal.returns-then-attempt-eq0-clause-tried
+returns-then-attempt-eq0-clause-tried g c = spent_tried c.args.bids c.args.bids c.args.self.now c.args.self.now c.law.ensures (spends_none c.args.self.now c.args.bids)

@@ -26,9 +26,9 @@ use Rattle.auc_answers.specs.Claims.{ArePlaceable, BoundFits, HasNoPriceUnheld, 
 use Rattle.auc_phases.specs.Eps.{first_eps, next_eps}
 use Rattle.auc_answers.proofs.BracketLaws.{bound_fits, holders_price_few}
 use Rattle.auc_answers.proofs.FoundLaws.{one_choice, person_at}
-use Rattle.auc_world.specs.Making.{IsMade}
-use Rattle.auc_world.specs.Parts.{Parts, world_of}
-use Rattle.auc_world.proofs.RoundLaws.{rounds_schedule}
+use Rattle.auc_machine.specs.Making.{IsMade}
+use Rattle.auc_machine.specs.Parts.{Parts, world_of}
+use Rattle.auc_machine.proofs.RoundLaws.{rounds_schedule}
 use Rattle.auc_graph.specs.Table.{IsTable, IsTableOf, Table}
 use Rattle.auc_letters.specs.Price.{IsEps}
 use Rattle.auc_letters.specs.declared.state.Held.{Held}
@@ -45,7 +45,7 @@ use Rattle.auc_hall.proofs.ProblemLaws.{length-rows, row_is, stands_for}
 use Rattle.auc_graph.specs.Row.{row}
 use Rattle.auc_graph.specs.declared.rows.RowArc.{RowArc}
 use Rattle.auc_claim.specs.declared.reason.Reason.{Reason}
-use Rattle.auc_world.proofs.Bridge.{counted_are_certified}
+use Rattle.auc_machine.proofs.Bridge.{counted_are_certified}
 use Rattle.auc_claim.specs.Claim.{pick_of}
 use Rattle.std.specs.List.{slice_get}
 

@@ -24,12 +24,12 @@ use Rattle.auc_answers.specs.Answers.{stop_of, why_of}
 use Rattle.auc_phases.specs.Begins.{ArePrices}
 use Rattle.auc_answers.specs.Prepared.{NobodyStuck}
 use Rattle.auc_world.specs.declared.solving.Outcome.{Outcome}
-use Rattle.auc_world.specs.Gathering.{AreSales, IsGathered}
-use Rattle.auc_world.specs.Making.{IsMade}
-use Rattle.auc_world.specs.Parts.{Parts, phase, world_of}
+use Rattle.auc_machine.specs.Gathering.{AreSales, IsGathered}
+use Rattle.auc_machine.specs.Making.{IsMade}
+use Rattle.auc_machine.specs.Parts.{Parts, phase, world_of}
 use Rattle.auc_world.specs.Phases.{ComesOf, IsPlayed, Leaves, Stage}
-use Rattle.auc_world.specs.Rounds.{Rounds}
-use Rattle.auc_world.proofs.RoundLaws.{rounds_schedule}
+use Rattle.auc_machine.specs.Rounds.{Rounds}
+use Rattle.auc_machine.proofs.RoundLaws.{rounds_schedule}
 
 pub nobody_stuck : (t : Table) (shards : ℕ) (eps : ℤ) → NobodyStuck t → SomeoneStuck (phase_of t shards eps) → ⊥
 nobody_stuck t shards eps all (i, l, none) = all i l none

@@ -26,13 +26,13 @@ use Rattle.auc_answers.proofs.Replicated.{replicate_default}
 use Rattle.auc_world.specs.declared.solving.Outcome.{Outcome}
 use Rattle.auc_world.specs.SingleState.{SingleState, MailsTell, lane, one_box}
 use Rattle.auc_world.specs.SinglePhase.{Given, IsGiven, IsGoing, IsStopped, begun}
-use Rattle.auc_world.specs.Lists.{MayKeep}
-use Rattle.auc_world.specs.Making.{IsMade}
-use Rattle.auc_world.specs.Parts.{Parts, world_of}
+use Rattle.auc_machine.specs.Lists.{MayKeep}
+use Rattle.auc_machine.specs.Making.{IsMade}
+use Rattle.auc_machine.specs.Parts.{Parts, world_of}
 use Rattle.auc_world.specs.Phases.{ComesOf}
-use Rattle.auc_world.specs.Rounds.{Rounds}
+use Rattle.auc_machine.specs.Rounds.{Rounds}
 use Rattle.auc_world.proofs.SinglePhase.{law, price_fit}
-use Rattle.auc_world.proofs.Made.{copy_is, made_starts, price_is}
+use Rattle.auc_machine.proofs.Made.{copy_is, made_starts, price_is}
 
 -- ---- a new world
 

@@ -27,13 +27,13 @@ use Rattle.auc_model.proofs.Theorems.{of_every_schedule}
 use Rattle.auc_persons.specs.Scan.{copy_in}
 use Rattle.auc_world.specs.declared.single_shard.notice.Notice.{Notice}
 use Rattle.auc_world.specs.SingleState.{SingleState, AreNoticesOf, Going, Halfway, IsNoticeOf, end_at, heard, nobody, sale_turns, sold}
-use Rattle.auc_world.specs.Rounds.{Plays, has_moved, round_of}
+use Rattle.auc_machine.specs.Rounds.{Plays, has_moved, round_of}
 use Rattle.auc_world.proofs.SingleCounting.{CountEnds, counting}
 use Rattle.auc_world.proofs.SingleHearing.{HearEnds, fits, hearing}
 use Rattle.auc_world.proofs.SingleMails.{gives_nothing, notices_many}
 use Rattle.auc_world.proofs.SingleSales.{SaleEnds, bid_ends}
 use Rattle.auc_world.proofs.Distinct.{at_most, occurs_here}
-use Rattle.auc_world.proofs.RoundLaws.{plays_join, two_plays}
+use Rattle.auc_machine.proofs.RoundLaws.{plays_join, two_plays}
 
 -- the notices that wait for the persons fit the world
 pub record TellsRight (g : Phase) (s : SingleState) (t : Notice) : Type 0 where

@@ -21,7 +21,7 @@ use Rattle.auc_persons.proofs.Rise.{rises_set}
 use Rattle.auc_world.specs.declared.single_shard.notice.Notice.{Notice}
 use Rattle.auc_world.specs.SingleState.{SingleState, nobody, sale_at, notices_of}
 use Rattle.auc_world.specs.SinglePhase.{Given, IsGiven, IsGoing, IsHalfway, IsStopped, StopEnds, answered, left_of, noted, without_first, without_notice}
-use Rattle.auc_world.specs.Parts.{world_of}
+use Rattle.auc_machine.specs.Parts.{world_of}
 use Rattle.auc_world.proofs.SingleStops.{never_still, stops_at_ceiling, stops_for_bids}
 use Rattle.auc_world.proofs.SingleLaws.{TellsRight, copy_fits, hears, idle_is, price_fits, rests, sells, tells_right, notices_fit}
 

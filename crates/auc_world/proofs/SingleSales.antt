@@ -34,7 +34,7 @@ use Rattle.auc_model.proofs.Selling.{after_accepted, after_declined}
 use Rattle.auc_persons.specs.Scan.{copy_in}
 use Rattle.auc_world.specs.declared.single_shard.notice.Notice.{Notice}
 use Rattle.auc_world.specs.SingleState.{SingleState, AreFirsts, AreNoticesOf, Shows, awarded, first_of, frees, lane, one_box, sale_at, sale_turns, sold, notices_of_sale}
-use Rattle.auc_world.specs.Rounds.{Plays}
+use Rattle.auc_machine.specs.Rounds.{Plays}
 use Rattle.auc_world.proofs.SingleMails.{answer_fits, answer_turn, first_turn, one_first, post_first, post_turn, room_for, step_at, take_first, notices_one}
 
 -- ---- lists in place of functions

@@ -33,10 +33,10 @@ use Rattle.auc_persons.specs.Scan.{copy_in}
 use Rattle.auc_world.specs.declared.single_shard.notice.Notice.{Notice}
 use Rattle.auc_world.specs.SingleState.{SingleState, Going, lane, one_box, sale_turns}
 use Rattle.auc_world.specs.SinglePhase.{StopEnds}
-use Rattle.auc_world.specs.Rounds.{Plays, has_moved, round_of}
+use Rattle.auc_machine.specs.Rounds.{Plays, has_moved, round_of}
 use Rattle.auc_world.proofs.SingleLaws.{not_ended}
 use Rattle.auc_world.proofs.SingleMails.{gives_nothing, post_first, post_turn, room_for, step_at, take_first, take_second, notices_many}
-use Rattle.auc_world.proofs.RoundLaws.{plays_join, two_plays}
+use Rattle.auc_machine.proofs.RoundLaws.{plays_join, two_plays}
 
 -- ---- what the persons hear leaves prices, holders, the hub's mail and the end
 

@@ -1,12 +1,5 @@
-pub mod Parts
-pub mod Making
-pub mod Gathering
-pub mod Rounds
 pub mod Phases
 pub mod Chain
-pub mod Mails
-pub mod Posting
-pub mod Lists
 pub mod SingleState
 pub mod Lots
 pub mod SinglePhase

@@ -1,18 +1,20 @@
--- A phase of a run, and its outcome.
-use Rattle.std.specs.Prelude.{ℕ, ℤ, ◌≡◌, ◌≢◌, List, Some, None, All}
+-- A phase of a run, its outcome, and the candidate lists after it.
+use Rattle.std.specs.Prelude.{ℕ, ℤ, ◌≡◌, ◌≢◌, List, Some, None, All, ⊤}
 use Rattle.auc_graph.specs.Table.{Table}
 use Rattle.auc_graph.specs.Price.{IsPrice}
 use Rattle.auc_model.specs.declared.turn.End.{End}
 use Rattle.auc_model.specs.Schedule.{Reached}
 use Rattle.auc_model.specs.World.{World, phase_of}
+use Rattle.auc_persons.specs.Candidates.{Listed}
 use Rattle.auc_answers.specs.declared.gathered.Gathered.{Gathered}
 use Rattle.auc_phases.specs.declared.limits.Limits.{Limits}
 use Rattle.auc_answers.specs.Answers.{why_of}
 use Rattle.auc_world.specs.declared.solving.Outcome.{Outcome}
-use Rattle.auc_world.specs.Gathering.{AreSales}
-use Rattle.auc_world.specs.Making.{IsMade}
-use Rattle.auc_world.specs.Parts.{Parts, world_of}
-use Rattle.auc_world.specs.Rounds.{Rounds}
+use Rattle.auc_machine.specs.Gathering.{AreSales}
+use Rattle.auc_machine.specs.Lists.{MayKeep}
+use Rattle.auc_machine.specs.Making.{IsMade}
+use Rattle.auc_machine.specs.Parts.{Parts, world_of}
+use Rattle.auc_machine.specs.Rounds.{Rounds}
 
 -- one phase: its eps, the prices that it begins with, and the world that its last round led to
 pub record Stage : Type 0 where
@@ -45,3 +47,9 @@ ComesOf t limits prices eps (Outcome.Stopped reason gathered) =
     (v : World) × Leaves t limits (record { eps = eps; prices = prices; world = v }) gathered
     × (v.end ≡ Some (End.Stopped (why_of reason)))
 ComesOf t limits prices eps (Outcome.Broken guard) = ⊥
+
+-- after a phase that has sold all, the lists are correct at the prices that it left
+abbrev pub StayKept : Table → ℕ → List (List Listed) → Outcome → Type 0
+StayKept t shards lists (Outcome.Sold gathered) = MayKeep t shards gathered.prices.items lists
+StayKept t shards lists (Outcome.Stopped reason gathered) = ⊤
+StayKept t shards lists (Outcome.Broken guard) = ⊤

@@ -16,9 +16,9 @@ use Rattle.auc_phases.specs.Limits.{AreLimits}
 use Rattle.auc_answers.specs.Prepared.{NobodyStuck}
 use Rattle.auc_world.specs.declared.single_shard.notice.Notice.{Notice}
 use Rattle.auc_world.specs.SingleState.{SingleState, Going, Halfway, first_of, firsts_of, freed_by, sale_at, notices_of, notices_of_sale}
-use Rattle.auc_world.specs.Making.{IsMade}
-use Rattle.auc_world.specs.Parts.{Parts, world_of}
-use Rattle.auc_world.specs.Rounds.{Rounds}
+use Rattle.auc_machine.specs.Making.{IsMade}
+use Rattle.auc_machine.specs.Parts.{Parts, world_of}
+use Rattle.auc_machine.specs.Rounds.{Rounds}
 
 -- the parameters of a phase: the rows of the problem, the limits, the prices that it begins with, and eps
 pub record Given : Type 0 where

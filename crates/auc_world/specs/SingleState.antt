@@ -12,7 +12,7 @@ use Rattle.auc_model.specs.Schedule.{Reached}
 use Rattle.auc_model.specs.declared.turn.End.{End}
 use Rattle.auc_model.specs.declared.turn.Turn.{Turn}
 use Rattle.auc_world.specs.declared.single_shard.notice.Notice.{Notice}
-use Rattle.auc_world.specs.Rounds.{Plays, Rounds}
+use Rattle.auc_machine.specs.Rounds.{Plays, Rounds}
 
 -- the number that stands for no freed person
 abbrev pub nobody : ℕ

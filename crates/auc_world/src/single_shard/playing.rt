@@ -6,8 +6,8 @@ ghost use Rattle.auc_phases.specs.Begins.{ArePrices};
 ghost use Rattle.auc_phases.specs.Limits.{AreLimits};
 ghost use Rattle.auc_answers.specs.Prepared.{NobodyStuck};
 ghost use Rattle.auc_world.specs.SinglePhase.{MayPlaySingleShard};
-ghost use Rattle.auc_world.specs.Lists.{MayKeep, StayKept};
-ghost use Rattle.auc_world.specs.Phases.{ComesOf};
+ghost use Rattle.auc_machine.specs.Lists.{MayKeep};
+ghost use Rattle.auc_world.specs.Phases.{ComesOf, StayKept};
 
 use crate::single_shard::kept::SingleShard;
 use crate::single_shard::rounds::Played;

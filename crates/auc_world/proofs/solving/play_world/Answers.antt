@@ -1,7 +1,7 @@
 use Rattle.std.proofs.Common.{◌∙◌, Some, ap, sym, w64}
 use Rattle.std.specs.Prelude.{FitsSigned}
 use Rattle.std.proofs.lemmas.Int.{to_z-of_z}
-use Rattle.auc_world.proofs.ListLaws.{left_for}
+use Rattle.auc_machine.proofs.ListLaws.{left_for}
 use Rattle.auc_world.proofs.PhaseLaws.{comes_to_no_guard, comes_to_no_stall, comes_to_sale, comes_to_stop, is_reached}
 use Rattle.auc_world.proofs.solving.play_world.Goals as goal
 

@@ -1,7 +1,7 @@
 use Rattle.std.specs.Prelude.{List, ℤ, Option, unsigned_abs}
 use Rattle.auc_letters.specs.Price.{IsEps}
 use Rattle.auc_phases.specs.Begins.{ArePrices, Begins}
-use Rattle.auc_world.specs.Lists.{MayKeep}
+use Rattle.auc_machine.specs.Lists.{MayKeep}
 use Rattle.auc_world.specs.Phases.{Stage}
 use Rattle.auc_world.proofs.ChainLaws.{IsReady}
 use Rattle.auc_world.proofs.solving.solve_rows.Given as goal

@@ -4,7 +4,7 @@ use Rattle.std.proofs.lemmas.Int.{to_z-of_z}
 use Rattle.auc_persons.specs.Candidates.{Kept}
 use Rattle.auc_world.specs.SingleState.{SingleState}
 use Rattle.auc_world.specs.SinglePhase.{Given, IsGoing}
-use Rattle.auc_world.specs.Lists.{MayKeep}
+use Rattle.auc_machine.specs.Lists.{MayKeep}
 use Rattle.auc_world.specs.Phases.{ComesOf}
 use Rattle.auc_world.specs.declared.solving.Outcome.{Outcome}
 use Rattle.auc_world.proofs.SingleEnds.{begins, comes, comes_to_stop, left}

@@ -1,0 +1,33 @@
+use Rattle.std.proofs.Common.{w64}
+use Rattle.std.specs.Prelude.{FitsSigned}
+use Rattle.std.proofs.lemmas.Int.{to_z-of_z}
+use Rattle.auc_model.proofs.Reached.{reached_start}
+use Rattle.auc_machine.proofs.Made.{copy_is, made_lawful, made_starts, price_is}
+use Rattle.auc_machine.proofs.world.World.make.Goals as goal
+
+pub returns-clause-lawful : goal.returns-clause-lawful
+returns-clause-lawful c =
+    let fits : FitsSigned w64 c.args.eps = c.ranges.eps in
+    let made = simp to_z-of_z at c.in_ok-world.ensures.made in
+    made_lawful c.args.rows.now c.args.limits.now c.args.prices.now c.args.eps _ made c.assemble.ensures.table c.requires.limits c.requires.prices c.requires.eps
+
+pub returns-clause-starts : goal.returns-clause-starts
+returns-clause-starts c =
+    let fits : FitsSigned w64 c.args.eps = c.ranges.eps in
+    let made = simp to_z-of_z at c.in_ok-world.ensures.made in
+    made_starts c.args.rows.now c.args.limits.now c.args.prices.now c.args.eps _ made c.assemble.ensures.table c.requires.limits c.requires.prices c.requires.eps
+
+pub returns-clause-prices : goal.returns-clause-prices
+returns-clause-prices c =
+    let fits : FitsSigned w64 c.args.eps = c.ranges.eps in
+    let made = simp to_z-of_z at c.in_ok-world.ensures.made in
+    λ j. price_is c.args.rows.now c.args.limits.now c.args.prices.now c.args.eps _ made c.assemble.ensures.table c.requires.limits c.requires.prices c.requires.eps j
+
+pub returns-clause-copies : goal.returns-clause-copies
+returns-clause-copies c =
+    let fits : FitsSigned w64 c.args.eps = c.ranges.eps in
+    let made = simp to_z-of_z at c.in_ok-world.ensures.made in
+    λ s j l. copy_is c.args.rows.now c.args.limits.now c.args.prices.now c.args.eps _ made c.assemble.ensures.table c.requires.limits c.requires.prices c.requires.eps s j l
+
+pub returns-clause-reached : goal.returns-clause-reached
+returns-clause-reached c = reached_start _ _ (returns-clause-lawful c) (returns-clause-starts c)

@@ -1,5 +1,0 @@
-use Rattle.auc_world.proofs.Bridge.{counted_are_certified}
-use Rattle.auc_world.proofs.laws.counted_holders_pass_the_checker.Goals as goal
-
-pub returns : goal.returns
-returns c = counted_are_certified

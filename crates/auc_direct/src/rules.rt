@@ -6,7 +6,8 @@
 //!    this displaces bids next. Two such chains take turns.
 //! 3. **Bid or search** (`auc_market`, `Pace`). In the last phase a chain that has taken as long as the latest searches
 //!    did ends by a shortest augmenting path. Before the last phase chains mostly end by themselves. There a chain may
-//!    take some times as long. Where no free object can be reached, the persons reached are a Hall violator.
+//!    take some times as long. The first search comes early, since it shows how long one takes. Where no free object
+//!    can be reached, the persons reached are a Hall violator.
 //! 4. **Phases** (epsilon scaling). Columns are reduced. Eps begins at the mean spread of a row divided by the mean
 //!    number of its arcs, and is divided by 8 from phase to phase. Prices stay, and nobody keeps an object.
 //! 5. **Ties, too fine, or calm.** Where most rows have two best arcs of the same value, the last phase is tried

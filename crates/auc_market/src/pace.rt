@@ -10,8 +10,7 @@ use auc_rows::FlatRows;
 pub struct Pacing {
     /// The time of one arc of a path search, in arcs of a bid.
     pub search: u64,
-    /// Before the last phase a chain may take this many times as long as a search. And the first search is estimated to
-    /// scan all arcs divided by this number.
+    /// Before the last phase a chain may take this many times as long as a search.
     pub early: u64,
     /// About how many arcs are scanned between two questions to a watch.
     pub slice: u64,
@@ -37,18 +36,17 @@ pub struct Pace {
 }
 
 impl Pace {
-    /// Before the first phase: a search is estimated at a part of all arcs.
+    /// Before the first phase. The first search comes early: it shows how long one takes, and scans no more than all
+    /// arcs.
     pub fn new(rows: &FlatRows, pacing: Pacing) -> Pace {
         let mean = rows.arc_count().checked_div(rows.persons() as usize);
         let mean = mean.unwrap_or(1).max(1);
         // The arcs of the mean row, or of a candidate list.
         let arcs_a_bid = if mean < LONG_ROW { mean } else { LIST_CAPACITY } as u64;
-        let arcs = (rows.arc_count() as u64).saturating_mul(pacing.search);
-        let arcs = arcs.checked_div(pacing.early).unwrap_or(arcs);
         Pace {
             pacing,
             arcs_a_bid,
-            search: arcs.checked_div(arcs_a_bid).unwrap_or(1),
+            search: 1,
             times: pacing.early,
             slice: pacing.slice.checked_div(arcs_a_bid).unwrap_or(1),
             bids_before_search: 1,

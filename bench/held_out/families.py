@@ -173,8 +173,112 @@ def overfull(persons, draw):
         yield {group + draw.randrange(49): draw.randrange(1_000) for _ in range(14)}
 
 
+# ---- A second set, written on 1 December 2026: the first one had been looked at by then.
+
+
+def parcels(persons, draw):
+    """Couriers and parcels in a town: the way there, and a fine for each minute after a window's end."""
+    couriers = [(draw.randrange(20_000), draw.randrange(20_000)) for _ in range(persons)]
+    places = [(draw.randrange(20_000), draw.randrange(20_000)) for _ in range(persons)]
+    ends = [draw.randrange(5, 60) for _ in range(persons)]
+    for person, near in enumerate(nearest(couriers, places, 14, 600)):
+        row = {}
+        for parcel in [*near, person]:
+            way = distance(couriers[person], places[parcel])
+            row[parcel] = way + 100 * max(0, way // 100 - ends[parcel])
+        yield row
+
+
+def planks(persons, draw):
+    """Orders of a length and planks of a length, in order: what is cut off is lost."""
+    wanted = sorted(draw.randrange(500, 4_000) for _ in range(persons))
+    planks_there = sorted(length + draw.randrange(0, 400) for length in wanted)
+    for person in range(persons):
+        yield {plank: abs(planks_there[plank] - wanted[person]) for plank in range(max(0, person - 12), min(persons, person + 13))}
+
+
+def cells(persons, draw):
+    """Cells of two samples by three measures, a few kinds of cells, and distances in whole steps: many are alike."""
+    kinds = [tuple(draw.randrange(100) for _ in range(3)) for _ in range(20)]
+    kind_of = [draw.randrange(len(kinds)) for _ in range(persons)]
+    members = {}
+    first, second = ([tuple(round(draw.gauss(mean, 6)) for mean in kinds[kind]) for kind in kind_of] for _ in range(2))
+    for person, kind in enumerate(kind_of):
+        members.setdefault(kind, []).append(person)
+    for person, kind in enumerate(kind_of):
+        others = {draw.choice(members[kind]) for _ in range(15)} | {person}
+        yield {other: sum(abs(one - two) for one, two in zip(first[person], second[other])) for other in others}
+
+
+def hubs(persons, draw):
+    """Texts and translations by likeness: some texts are like all others, and most have few that are like them."""
+    liked = [draw.random() ** 3 for _ in range(persons)]
+    ranked = sorted(range(persons), key=lambda text: -liked[text])
+    for person in range(persons):
+        row = {ranked[int(persons * draw.random() ** 3)]: 0 for _ in range(11)}
+        for text in row:
+            row[text] = int(1_000 * (1 - liked[text] * (0.5 + draw.random() / 2)))
+        row[person] = min(row.get(person, 1_000), draw.randrange(100, 700))
+        yield row
+
+
+def villages(persons, draw):
+    """Villages of two hundred who mostly stay among themselves; one road in forty leads elsewhere."""
+    for person in range(persons):
+        first = person // 200 * 200
+        row = {draw.randrange(first, min(first + 200, persons)) if draw.randrange(40) else draw.randrange(persons): draw.randrange(1, 2_000) for _ in range(9)}
+        row.setdefault(person, draw.randrange(1, 2_000))
+        yield row
+
+
+def ranks(persons, draw):
+    """What matters first costs a million a step, and what matters second some hundreds."""
+    for person in range(persons):
+        row = {draw.randrange(persons): 1_000_000 * draw.randrange(1, 6) + draw.randrange(1_000) for _ in range(12)}
+        row.setdefault(person, 1_000_000 * draw.randrange(1, 6) + draw.randrange(1_000))
+        yield row
+
+
+def blocks(persons, draw):
+    """Cars and riders at the corners of a town's blocks: ways along streets, in whole blocks of a hundred metres."""
+    side = math.isqrt(persons) * 2
+    cars, riders = ([(draw.randrange(side) * 100, draw.randrange(side) * 100) for _ in range(persons)] for _ in range(2))
+    for person, near in enumerate(nearest(riders, cars, 10, 600)):
+        yield {car: abs(riders[person][0] - cars[car][0]) + abs(riders[person][1] - cars[car][1]) for car in [*near, person]}
+
+
+def few_arcs(persons, draw):
+    """Two or three arcs each, so that one choice forces others far away."""
+    order = list(range(persons))
+    draw.shuffle(order)
+    for person in range(persons):
+        row = {order[person]: draw.randrange(1_000), order[(person + 1) % persons]: draw.randrange(1_000)}
+        if draw.randrange(2):
+            row.setdefault(draw.randrange(persons), draw.randrange(1_000))
+        yield row
+
+
+def tables(persons, draw):
+    """A full table of distances between points, some of which lie on one another."""
+    here, there = ([(draw.randrange(60) * 10, draw.randrange(60) * 10) for _ in range(persons)] for _ in range(2))
+    for person in range(persons):
+        yield {point: distance(here[person], there[point]) for point in range(persons)}
+
+
+def stands_wide(persons, draw):
+    """Half as many stands again as traders, who know a row of stands; the corners cost the most."""
+    stands = persons + persons // 2
+    fees = [900 if stand % 10 == 0 else draw.randrange(100, 400) for stand in range(stands)]
+    for person in range(persons):
+        first = draw.randrange(stands - 25)
+        row = {stand: fees[stand] + draw.randrange(50) for stand in range(first, first + 25) if draw.random() < 0.5}
+        row.setdefault(person, 1_500)
+        yield row
+
 # Family, persons.
 PROBLEMS = [
     (records, 10_000), (sightings_wide, 5_000), (shifts, 7_000), (taxis, 6_000), (catalogue, 8_000), (rooms, 6_000), (slots, 5_000), (adverts, 8_000),
     (scans, 6_400), (grades, 8_000), (budgets, 8_000), (networks, 8_000), (schools, 6_000), (estimates, 700), (seats_wide, 8_000), (overfull, 5_000),
+    (parcels, 6_000), (planks, 8_000), (cells, 6_000), (hubs, 8_000), (villages, 8_000), (ranks, 8_000), (blocks, 8_000), (few_arcs, 10_000),
+    (tables, 600), (stands_wide, 6_000),
 ]

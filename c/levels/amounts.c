@@ -180,8 +180,10 @@ static int carry(wide_sum *sum) {
 double nearest_to(const wide_sum *given) {
     wide_sum sum = *given;
     int is_below = carry(&sum);
-    for (size_t k = 0; is_below && k < LIMBS; k++) sum.limbs[k] = -sum.limbs[k];
-    carry(&sum);
+    if (is_below) {
+        for (size_t k = 0; k < LIMBS; k++) sum.limbs[k] = -sum.limbs[k];
+        carry(&sum);
+    }
     size_t top = LIMBS - 1;
     while (top > 2 && !sum.limbs[top]) top--;
     /* The three highest limbs have all of a double's bits, and what is below them only says whether a half is one. */

@@ -18,15 +18,15 @@ abbrev pub outside : List ℤ → Option ℕ
 outside prices = position is_outside prices
 
 -- a direct run starts from a price for each object
-abbrev pub prices_fault : Problem → List ℤ → Option StartFault
-prices_fault p prices = if not (length prices == p.objects) then Some OtherSize else option_map (λ j. Price j) (outside prices)
+abbrev pub prices_fault : ℕ → List ℤ → Option StartFault
+prices_fault objects prices = if not (length prices == objects) then Some OtherSize else option_map (λ j. Price j) (outside prices)
 
 -- and one by messages only where there are as many objects as persons
 abbrev pub square_fault : Problem → List ℤ → Option StartFault
-square_fault p prices = if not (p.objects == p.persons) then Some NotSquare else prices_fault p prices
+square_fault p prices = if not (p.objects == p.persons) then Some NotSquare else prices_fault p.objects prices
 
 abbrev pub fault_by : Driver → Problem → List ℤ → Option StartFault
-fault_by Direct p prices = prices_fault p prices
+fault_by Direct p prices = prices_fault p.objects prices
 fault_by Messages p prices = square_fault p prices
 
 -- no prices at all are no start, and no fault

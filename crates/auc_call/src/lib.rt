@@ -27,6 +27,6 @@ pub use found::Found;
 pub use given::{GivenArcs, Run};
 pub use solved::{Failed, Solved};
 pub use solving::solve_problem;
-pub use start::StartFault;
+pub use start::{StartFault, prices_fault};
 pub use status::{BRACKET, INFEASIBLE, INVALID, MEMORY, OPTIMAL, REFUSED, SIZES, START};
 pub use telling::tell_solved;

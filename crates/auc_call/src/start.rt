@@ -1,6 +1,7 @@
 //! The prices from which a caller wants a run to start.
 
 ghost use Rattle.std.specs.Prelude.{◌≡◌, ◌≢◌, ◌<◌, ◌^◌, None, [], length};
+ghost use Rattle.auc_graph.specs.Problem.{Problem};
 ghost use Rattle.auc_claim.specs.Start.{AreStart};
 ghost use Rattle.auc_direct.specs.Starts.{AreStartPrices};
 ghost use Rattle.auc_call.specs.Start.{CanStart, is_outside, outside, prices_fault, square_fault, start_fault_by};
@@ -39,12 +40,12 @@ fn outside(prices: &[i64]) -> Option<u32>
     None
 }
 
-/// Why no direct run can start from these prices.
-fn prices_fault(problem: &ArcList, start: &[i64]) -> Option<StartFault>
-    ensures exact { result ≡ prices_fault problem.now start.now }
-    ensures start { result ≡ None → AreStartPrices problem.now start.now }
+/// Why no direct run of a problem with so many objects can start from these prices.
+pub fn prices_fault(objects: u32, start: &[i64]) -> Option<StartFault>
+    ensures exact { result ≡ prices_fault objects start.now }
+    ensures start { result ≡ None → (p : Problem) → p.objects ≡ objects → AreStartPrices p start.now }
 {
-    if start.len() != problem.objects() as usize {
+    if start.len() != objects as usize {
         return Some(StartFault::OtherSize);
     }
     match outside(start) {
@@ -61,7 +62,7 @@ fn square_fault(problem: &ArcList, start: &[i64]) -> Option<StartFault>
     if problem.objects() != problem.persons() {
         return Some(StartFault::NotSquare);
     }
-    prices_fault(problem, start)
+    prices_fault(problem.objects(), start)
 }
 
 /// Why no run of this kind on this problem can start from these prices; no prices at all are no start, and no fault.
@@ -73,7 +74,7 @@ pub(crate) fn start_fault_by(driver: Driver, problem: &ArcList, start: &[i64]) -
         return None;
     }
     match driver {
-        Driver::Direct => prices_fault(problem, start),
+        Driver::Direct => prices_fault(problem.objects(), start),
         Driver::Messages => square_fault(problem, start),
     }
 }

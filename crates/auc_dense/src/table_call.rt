@@ -21,13 +21,12 @@ use std::alloc::Global;
 /// objects. A stride below that number, persons * objects of 2^32 and more, and a row that doesn't lie within `costs`,
 /// are [`auc_call::SIZES`].
 ///
-/// Where `start` is empty a search over the table comes first ([`auc_table::propose`]), in which to look over a row
-/// counts as a bid, and its answer is taken where one pass over the table shows that it is least. That takes
-/// O(persons^2 * objects) time at most, and at most 44 bytes of memory an object and 20 a person. Where it looks at
-/// more than 2^24 entries of a table with as many objects as persons, and at more than a 32nd part of persons^2 *
-/// objects, and where there is a start, the arcs are written out and solved: that takes the time and memory of
-/// [`auc_call::solve_call`], but for its copy of the arcs, which is the only one here: 16 bytes for each entry that is
-/// no gap.
+/// A search over the table comes first ([`auc_table::propose`]), in which to look over a row counts as a bid, and its
+/// answer is taken where one pass over the table shows that it is least. With as many objects as persons it starts from
+/// `start`, where these prices give a greater lower bound than prices of 0. That takes O(persons^2 * objects) time at
+/// most, and at most 44 bytes of memory an object and 20 a person. After more bids, and where there is no assignment,
+/// the arcs are written out and solved: that takes the time and memory of [`auc_call::solve_call`], but for its copy of
+/// the arcs, which is the only one here: 16 bytes for each entry that is no gap.
 pub fn solve_table_call(
     alloc: Global,
     given: &GivenTable,

@@ -79,7 +79,7 @@ fn solve_arcs(
 }
 
 /// Solves the problem of a table directly, and writes the answer into the caller's memory, with objects in place of
-/// arcs. Where there is no start, a search over the table itself comes first.
+/// arcs. A search over the table itself comes first.
 pub(crate) fn solve_table_into(
     alloc: Global,
     given: &GivenTable,

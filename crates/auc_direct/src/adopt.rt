@@ -55,8 +55,9 @@ fn scaled_prices(rows: &FlatRows, mut prices: Vec<i64>) -> Option<Vec<i64>>
     Some(prices)
 }
 
-/// Solves a full table by a search that may scan at most `scans` costs, and tries its proposal. None where the rows
-/// aren't a full table, or where the proposal doesn't show a least assignment. Takes O(persons * objects) time and 8
+/// Solves a full table by a search that may scan at most `scans` costs, and tries its proposal. It is from scaled start
+/// prices, where there are such. None where the rows aren't a full table, or where the proposal doesn't show a least
+/// assignment. Takes O(persons * objects) time and 8
 /// bytes of memory an arc beside the search.
 ///
 /// # Errors
@@ -65,6 +66,7 @@ fn scaled_prices(rows: &FlatRows, mut prices: Vec<i64>) -> Option<Vec<i64>>
 pub(crate) fn adopted(
     alloc: Global,
     rows: &FlatRows,
+    start: &[i64],
     scans: u64,
 ) -> Result<Option<Holdings>, AllocError>
     ensures stands { IfOk result (λ o. IfSome o (λ m. Stands rows.now (pos 1) m.prices.items m.holders.items
@@ -85,7 +87,7 @@ pub(crate) fn adopted(
         stride: objects as usize,
         costs: costs.as_slice(),
     };
-    let Some(proposal) = propose(alloc, &table, None, scans)? else {
+    let Some(proposal) = propose(alloc, &table, None, start, rows.scale(), scans)? else {
         return Ok(None);
     };
     let Proposal {

@@ -148,7 +148,7 @@ fn run_wide<W: Watch>(
     ensures halt { IfErr result (λ h. IsHalt rows.now h × (W.has_stopped watch.new ≡ W.has_stopped watch.old)) }
 {
     if !is_start {
-        if let Some(holdings) = adopted(alloc, rows, scans_of_table(rows))? {
+        if let Some(holdings) = adopted(alloc, rows, &[], scans_of_table(rows))? {
             return Ok(Outcome {
                 ending: Ending::Sold,
                 holdings,
@@ -165,14 +165,14 @@ fn run_wide<W: Watch>(
     })
 }
 
-/// A run from the holdings of a market at the last eps. From a start the last phase is tried before anything else, and
-/// persons keep what they hold in it. Then a full table is searched as a table.
+/// A run from the holdings of a market at the last eps. A full table is searched as a table first. Then, from a start,
+/// the last phase is tried, and persons keep what they hold in it.
 pub(crate) fn run<W: Watch>(
     alloc: Global,
     rows: &FlatRows,
     bids: u64,
     market: Market<'_>,
-    is_start: bool,
+    start: &[i64],
     watch: &mut W,
 ) -> Result<Outcome, Halt>
     requires begins { Begins rows.now market }
@@ -183,22 +183,22 @@ pub(crate) fn run<W: Watch>(
     ensures halt { IfErr result (λ h. IsHalt rows.now h × (W.has_stopped watch.new ≡ W.has_stopped watch.old)) }
 {
     if rows.persons() != rows.objects() {
-        return run_wide(alloc, rows, bids, market, is_start, watch);
+        return run_wide(alloc, rows, bids, market, !start.is_empty(), watch);
+    }
+    if let Some(holdings) = adopted(alloc, rows, start, scans_of_table(rows))? {
+        return Ok(Outcome {
+            ending: Ending::Sold,
+            holdings,
+        });
     }
     let mut market = market;
     let mut pace = Pace::new(rows, PACING);
-    let attempt = attempt_from_start(rows, is_start);
+    let attempt = attempt_from_start(rows, !start.is_empty());
     if let Some(ending) = market.try_phase(bids, attempt, &mut pace, watch)? {
         market.law();
         return Ok(Outcome {
             ending,
             holdings: market.into_holdings(ending),
-        });
-    }
-    if let Some(holdings) = adopted(alloc, rows, scans_of_table(rows))? {
-        return Ok(Outcome {
-            ending: Ending::Sold,
-            holdings,
         });
     }
     let ending = play_square(&mut market, rows, bids, &mut pace, watch)?;
@@ -254,7 +254,7 @@ pub(crate) fn run_first<W: Watch>(
 {
     let prices = start_prices(alloc, rows)?;
     let market = Market::new(alloc, rows, prices)?;
-    let outcome = run(alloc, rows, bids, market, false, watch)?;
+    let outcome = run(alloc, rows, bids, market, &[], watch)?;
     if outcome.ending != Ending::Stopped(Reason::Ceiling) {
         return Ok(outcome);
     }

@@ -315,6 +315,6 @@ pub fn solve_direct_watched_from<W: Watch>(
         return Ok(answer);
     }
     let market = Market::from_start(alloc, &flat, start)?;
-    let ended = run(alloc, &flat, limits.bids, market, true, watch);
+    let ended = run(alloc, &flat, limits.bids, market, start, watch);
     concluded(alloc, problem, flat, ended)
 }

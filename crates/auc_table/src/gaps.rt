@@ -18,4 +18,14 @@ impl<const IS_ANY: bool> Gap<IS_ANY> {
             entry
         }
     }
+
+    /// The cost of an entry, where a gap is read as one of a very low cost.
+    #[inline(always)]
+    pub(crate) fn low_cost_of(self, entry: i64) -> i64 {
+        if IS_ANY && entry == self.0 {
+            -GAP_COST
+        } else {
+            entry
+        }
+    }
 }

@@ -1,7 +1,7 @@
 //! Proposes a least assignment of a dense table of costs, read as it lies in memory.
 //!
 //! The method is row reduction and shortest augmenting paths (Jonker and Volgenant, 1987), in O(persons^2 * objects)
-//! time at most.
+//! time at most. Where that takes long, an auction with epsilon scaling gives the prices to begin at.
 //!
 //! [`propose`] gives each person an object, no object twice, and each object a price at which no person should prefer
 //! another object. **Nothing is proved of the proposal**, but that the search ends and reads nothing outside of the
@@ -13,7 +13,9 @@ mod gaps;
 mod market;
 mod passes;
 mod paths;
+mod phases;
 mod proposal;
+mod start;
 mod table;
 
 pub use proposal::{Proposal, propose};

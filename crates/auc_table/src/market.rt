@@ -11,12 +11,12 @@ pub(crate) const NOBODY: u32 = 4_294_967_295;
 /// The number of bids of a chain of displaced persons. The person displaced by the last one takes a path.
 const CHAIN_BIDS: u32 = 4;
 
-/// The best object of a person, and how much its price may rise until another one is as good; 0 where there is no other
-/// one.
+/// The best object of a person, and the margin: how much its price may rise until another one is as good; 0 where there
+/// is no other one.
 #[derive(Clone, Copy)]
 struct Best {
     object: usize,
-    rise: i64,
+    margin: i64,
 }
 
 /// The best entry of a row; none of an empty one.
@@ -26,12 +26,12 @@ fn best_of<const G: bool>(gap: Gap<G>, row: &[i64], keys: &[i64]) -> Option<Best
     let before = least_value(gap, &row[..object], &keys[..object]);
     let after = least_value(gap, &row[object + 1..], &keys[object + 1..]);
     let second = before.min(after);
-    let rise = if second == i64::MAX {
+    let margin = if second == i64::MAX {
         0
     } else {
         (second >> 1).wrapping_sub(value >> 1)
     };
-    Some(Best { object, rise })
+    Some(Best { object, margin })
 }
 
 /// The keys and the holders of the objects, and the object of each person. `scanned` counts the entries that were
@@ -45,11 +45,12 @@ pub(crate) struct Market {
 }
 
 impl Market {
-    /// Nobody holds anything, and all prices are 0.
-    pub(crate) fn new(alloc: Global, persons: u32, objects: u32) -> Result<Market, AllocError> {
+    /// Nobody holds anything, at these keys of free objects.
+    pub(crate) fn new(alloc: Global, persons: u32, keys: Vec<i64>) -> Result<Market, AllocError> {
+        let holders = vec![in alloc; NOBODY; keys.len()]?;
         Ok(Market {
-            keys: vec![in alloc; 0; objects as usize]?,
-            holders: vec![in alloc; NOBODY; objects as usize]?,
+            keys,
+            holders,
             owns: vec![in alloc; NOBODY; persons as usize]?,
             scanned: 0,
         })
@@ -63,6 +64,17 @@ impl Market {
         Some(self.holders[object])
     }
 
+    /// How many persons have nothing.
+    pub(crate) fn count_free(&self) -> u32 {
+        let mut many: u32 = 0;
+        for object in &self.owns {
+            if *object == NOBODY {
+                many = many.saturating_add(1);
+            }
+        }
+        many
+    }
+
     /// A person takes an object; returns the holder before.
     pub(crate) fn hand_over(&mut self, person: u32, object: usize) -> u32 {
         if object >= self.holders.len() || person as usize >= self.owns.len() {
@@ -74,12 +86,32 @@ impl Market {
         earlier
     }
 
-    /// A person takes the best object, and raises its price by the margin to the second best; returns the displaced
-    /// person. Where another object is as good as the best one and the best one has a holder, the person takes nothing.
-    fn bid<const G: bool>(&mut self, table: &Table, gap: Gap<G>, person: u32) -> Option<u32> {
+    /// Nobody holds anything; prices stay.
+    pub(crate) fn release(&mut self) {
+        for object in 0..self.keys.len().min(self.holders.len()) {
+            if self.holders[object] != NOBODY {
+                self.keys[object] = self.keys[object].wrapping_sub(1);
+                self.holders[object] = NOBODY;
+            }
+        }
+        for person in 0..self.owns.len() {
+            self.owns[person] = NOBODY;
+        }
+    }
+
+    /// A person takes the best object, and raises its price by eps and the margin to the second best; returns the
+    /// displaced person. Where that is no rise and the best object has a holder, the person takes nothing.
+    pub(crate) fn bid<const G: bool>(
+        &mut self,
+        table: &Table,
+        gap: Gap<G>,
+        person: u32,
+        eps: i64,
+    ) -> Option<u32> {
         let row = row_of(table, person);
         self.scanned = self.scanned.saturating_add(row.len() as u64);
-        let Best { object, rise } = best_of(gap, row, self.keys.as_slice())?;
+        let Best { object, margin } = best_of(gap, row, self.keys.as_slice())?;
+        let rise = margin.wrapping_add(eps);
         if rise == 0 && self.holder_of(object).is_some() {
             return None;
         }
@@ -100,7 +132,7 @@ impl Market {
     pub(crate) fn bid_in_chain<const G: bool>(&mut self, table: &Table, gap: Gap<G>, first: u32) {
         let mut person = first;
         for _ in 0..CHAIN_BIDS {
-            match self.bid(table, gap, person) {
+            match self.bid(table, gap, person, 0) {
                 Some(earlier) => person = earlier,
                 None => return,
             }

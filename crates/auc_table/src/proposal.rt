@@ -3,6 +3,8 @@
 use crate::gaps::Gap;
 use crate::market::{Market, NOBODY};
 use crate::paths::Search;
+use crate::phases::{raise_prices, scans_of_paths};
+use crate::start::start_keys;
 use crate::table::Table;
 use std::alloc::{AllocError, Global};
 
@@ -17,22 +19,26 @@ pub struct Proposal {
     pub prices: Vec<i64>,
 }
 
-/// Each person bids once in order, and the persons displaced bid a few times. A person who then has nothing takes a
-/// path. Returns whether each person has an object: not where there are too few objects, or where the limit on scanned
-/// entries is reached.
-fn assign_all<const G: bool>(
+/// Each person bids once in order, and the persons displaced bid a few times (row reduction). Returns how many persons
+/// have nothing then.
+fn reduce_rows<const G: bool>(table: &Table, gap: Gap<G>, market: &mut Market, scans: u64) -> u32 {
+    for person in 0..table.persons {
+        if scans < market.scanned {
+            break;
+        }
+        market.bid_in_chain(table, gap, person);
+    }
+    market.count_free()
+}
+
+/// A person who has nothing takes a path. Returns whether each person has an object: not where there are too few
+/// objects, or where the limit on scanned entries is reached.
+fn augment<const G: bool>(
     table: &Table,
-    gap: Gap<G>,
     market: &mut Market,
     search: &mut Search<G>,
     scans: u64,
 ) -> Result<bool, AllocError> {
-    for person in 0..table.persons {
-        if scans < market.scanned {
-            return Ok(false);
-        }
-        market.bid_in_chain(table, gap, person);
-    }
     for person in 0..table.persons {
         if scans < market.scanned {
             return Ok(false);
@@ -48,14 +54,38 @@ fn assign_all<const G: bool>(
     Ok(true)
 }
 
+/// Gives each person an object. Where most have nothing after the row reduction, or where paths take long, an auction
+/// raises the prices first. With more objects than persons none does, since what nobody takes has to keep price 0.
+fn assign_all<const G: bool>(
+    table: &Table,
+    gap: Gap<G>,
+    market: &mut Market,
+    search: &mut Search<G>,
+    scans: u64,
+) -> Result<bool, AllocError> {
+    let free = reduce_rows(table, gap, market, scans);
+    if table.persons == table.objects {
+        let few = scans.min(scans_of_paths(table));
+        if free <= table.persons / 2 && augment(table, market, search, few)? {
+            return Ok(true);
+        }
+        raise_prices(table, gap, market, scans);
+        reduce_rows(table, gap, market, scans);
+    }
+    augment(table, market, search, scans)
+}
+
 /// Searches a table with such gaps.
 fn propose_by<const G: bool>(
     alloc: Global,
     table: &Table,
     gap: Gap<G>,
+    start: &[i64],
+    scale: i64,
     scans: u64,
 ) -> Result<Option<Proposal>, AllocError> {
-    let mut market = Market::new(alloc, table.persons, table.objects)?;
+    let keys = start_keys(alloc, table, gap, start, scale)?;
+    let mut market = Market::new(alloc, table.persons, keys)?;
     let mut search = Search::new(alloc, gap, table.objects)?;
     if !assign_all(table, gap, &mut market, &mut search, scans)? {
         return Ok(None);
@@ -80,13 +110,18 @@ fn propose_by<const G: bool>(
 /// Searches for a least assignment of a table, where an entry that equals `gap` is a gap. It scans some more than
 /// `scans` entries at most. Where that doesn't suffice, or there are fewer objects than persons, it returns None.
 ///
+/// Where `start` has a price for each object, in costs of the table times `scale`, and there are as many objects as
+/// persons, the search starts from these prices if they give a greater lower bound than prices of 0 (weak duality).
+/// Else it starts from 0.
+///
 /// **The caller tries the proposal**, as nothing is proved of it. Where there is an assignment and costs are from -10^9
 /// to 10^9, it should be a least one without gaps. Its prices should be from 0 up, in costs of the table. At them no
 /// object should be better for a person than the person's own, and an object that nobody has should have price 0.
 ///
-/// The method is a row reduction, which is an auction at eps 0 that gives up early, from prices 0, and then shortest
-/// augmenting paths. Source: Jonker and Volgenant, "A shortest augmenting path algorithm for dense and sparse linear
-/// assignment problems", Computing 38, 1987.
+/// The method is a row reduction, which is an auction at eps 0 that gives up early, and then shortest augmenting paths.
+/// Source: Jonker and Volgenant, "A shortest augmenting path algorithm for dense and sparse linear assignment problems",
+/// Computing 38, 1987. With as many objects as persons, where that takes long, it begins anew from the prices of an
+/// auction with epsilon scaling.
 ///
 /// Takes O(persons^2 * objects) time at most, and at most 44 bytes of memory an object and 4 a person.
 ///
@@ -97,10 +132,12 @@ pub fn propose(
     alloc: Global,
     table: &Table,
     gap: Option<i64>,
+    start: &[i64],
+    scale: i64,
     scans: u64,
 ) -> Result<Option<Proposal>, AllocError> {
     match gap {
-        Some(gap) => propose_by(alloc, table, Gap::<true>(gap), scans),
-        None => propose_by(alloc, table, Gap::<false>(0), scans),
+        Some(gap) => propose_by(alloc, table, Gap::<true>(gap), start, scale, scans),
+        None => propose_by(alloc, table, Gap::<false>(0), start, scale, scans),
     }
 }

@@ -1,7 +1,7 @@
 //! The search over a table by itself, of which nothing is proved but that it ends.
 
 use crate::same::assert_same;
-use auc_table::{Table, propose};
+use auc_table::{Proposal, Table, propose};
 use std::test::*;
 
 /// No entry is where this number is.
@@ -24,7 +24,7 @@ fn proposed(
         stride: objects as usize,
         costs,
     };
-    let found = propose(rt.alloc(), &table, gap, looks).ok()??;
+    let found = propose(rt.alloc(), &table, gap, &[], 1, looks).ok()??;
     let objects = found.objects.as_slice();
     if objects.len() != 3 {
         return None;
@@ -58,4 +58,60 @@ fn nothing(rt: HostRuntime) {
     assert_same(&rt, proposed(&rt, 3, &costs, None, 0), None);
     assert_same(&rt, proposed(&rt, 2, &costs, None, ENOUGH), None);
     assert_same(&rt, proposed(&rt, 3, &costs[..8], None, ENOUGH), None);
+}
+
+/// How many rows the table of products has. Row reduction and paths alone pass over it forty times, so the auction is
+/// played.
+const PRODUCTS: u32 = 80;
+
+/// What is proposed for the table of products, from these prices times two.
+fn of_products(rt: &HostRuntime, start: &[i64], looks: u64) -> Option<Proposal> {
+    let many = PRODUCTS as usize;
+    let mut costs = [0; 6_400];
+    for person in 0..many {
+        for object in 0..many {
+            costs[person * many + object] = ((person + 1) * (object + 1)) as i64;
+        }
+    }
+    let table = Table {
+        persons: PRODUCTS,
+        objects: PRODUCTS,
+        stride: many,
+        costs: &costs,
+    };
+    propose(rt.alloc(), &table, None, start, 2, looks).ok()?
+}
+
+/// The first person has the last object, and so on.
+fn is_opposite(found: &Proposal) -> bool {
+    let mut is = true;
+    for person in 0..found.objects.len() {
+        is = is && found.objects[person] as usize + person + 1 == PRODUCTS as usize;
+    }
+    is && found.objects.len() == PRODUCTS as usize
+}
+
+/// Products, by phases of an auction.
+#[test]
+fn by_phases(rt: HostRuntime) {
+    let found = of_products(&rt, &[], u64::MAX);
+    assert_same(&rt, found.is_some_and(|found| is_opposite(&found)), true);
+}
+
+/// From the prices found before, four passes are enough, but not from others.
+#[test]
+fn from_prices(rt: HostRuntime) {
+    let looks = 4 * 6_400;
+    assert_same(&rt, of_products(&rt, &[], looks).is_some(), false);
+    let mut start = [0; 80];
+    if let Some(before) = of_products(&rt, &[], u64::MAX) {
+        for object in 0..before.prices.len().min(80) {
+            start[object] = before.prices[object].wrapping_mul(2);
+        }
+    }
+    let found = of_products(&rt, &start, looks);
+    assert_same(&rt, found.is_some_and(|found| is_opposite(&found)), true);
+    start.reverse();
+    let found = of_products(&rt, &start, looks);
+    assert_same(&rt, found.is_some(), false);
 }

@@ -3,7 +3,7 @@ use Rattle.auc_call.proofs.StartLaws.{none_outside}
 use Rattle.auc_call.proofs.start.prices_fault.Goals as goal
 
 pub returns-in-None-clause-start : goal.returns-in-None-clause-start
-returns-in-None-clause-start c = λ none. record {
-  each = omega (arith, c.if-start-objects.false, c.objects.ensures.objects);
+returns-in-None-clause-start c = λ none p same. record {
+  each = omega (arith, c.if-start-objects.false, same);
   within = none_outside c.args.start.now (sym c.in-None.is ∙ c.outside.ensures);
 }

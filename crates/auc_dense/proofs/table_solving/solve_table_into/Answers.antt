@@ -1,8 +1,7 @@
-use Rattle.std.proofs.Common.{ℕ, List, length, ap, arith, refl, rules, subst, w64}
-use Rattle.std.specs.Prelude.{FitsSigned, ℤ}
+use Rattle.std.proofs.Common.{ℕ, length, arith, refl, rules, subst, w64}
+use Rattle.std.specs.Prelude.{FitsSigned}
 use Rattle.std.proofs.lemmas.Int.{to_z-of_z}
 use Rattle.auc_call.specs.Memory.{memory}
-use Rattle.auc_call.specs.Start.{start_fault}
 use Rattle.auc_dense.specs.Table.{IsTable, table_problem}
 use Rattle.auc_dense.specs.TableSolving.{AreTableSizes}
 use Rattle.auc_dense.proofs.table_solving.solve_table_into.Goals as goal
@@ -20,7 +19,8 @@ returns-in-Some c =
         set = omega (arith, c.if-set-places.false);
       };
     } in
-    let none = rw c.in-Some.is at c.in_ok-found.ensures.unstarted in
+    let start = rw c.in-Some.is at c.in_ok-found.ensures.start in
+    let faultless = simp (to_z-of_z, c.objects_or-wanted.ensures) at start in
     let told = rw c.in-Some.is at c.in_ok-found.ensures.quick in
     let found = simp (to_z-of_z, c.objects_or-wanted.ensures) at told in
-    simp to_z-of_z (sizes, ap (λ (zs : List ℤ). start_fault (table_problem c.args.given.now.persons c.args.given.now.objects c.args.given.now.costs.now c.args.given.now.stride c.args.given.now.gap) zs) none, (found, refl))
+    simp to_z-of_z (sizes, faultless, (found, refl))

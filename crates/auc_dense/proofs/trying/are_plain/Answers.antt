@@ -1,4 +1,4 @@
-use Rattle.std.proofs.Common.{arith, get_or, pos, refl, rules, All, w64}
+use Rattle.std.proofs.Common.{arith, get_or, pos, refl, rules, w64}
 use Rattle.std.specs.Prelude.{FitsSigned}
 use Rattle.std.proofs.lemmas.Int.{to_z-of_z}
 use Rattle.std.proofs.lemmas.List.{take_all}

@@ -33,7 +33,9 @@ typedef struct {
  * of a table are `stride` apart; where that isn't the number of columns, costs are doubles. */
 typedef struct {
     const void *costs;
-    const int64_t *row, *column, *start; /* of each entry, or NULL of a table; a price of each object, or none */
+    const int64_t *row, *column; /* of each entry, or NULL of a table */
+    const int64_t *start;        /* a price of each object, of whole costs as the library has it, or NULL */
+    const double *start_amounts; /* or in its place in the unit of the costs */
     size_t count, rows, columns, stride, starts;
     size_t most_entries; /* so many entries at most are taken */
     uint64_t bids, whole_limit;

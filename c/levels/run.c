@@ -1,4 +1,5 @@
 /* Runs a problem: its memory, the library's call in whole units, and what is made of its answer. */
+#include <math.h>
 #include <stdlib.h>
 #include <string.h>
 #ifdef __SSE2__
@@ -60,7 +61,7 @@ void end_job(job *w) {
  * fast or faster. A table with ways out has no gaps for the library, and is as fast as a list from 12 to 30 % of all
  * entries within the limit (50 to 500 rows: random costs, and distances in a plane). */
 static int are_listed(const job *w) {
-    if (w->q.row || (w->q.start && w->outlets) || w->q.count > SIGDORF_MOST_ARCS) return 1;
+    if (w->q.row || (w->q.starts && w->outlets) || w->q.count > SIGDORF_MOST_ARCS) return 1;
     return w->q.count >= FEWEST_LISTED && w->entries - w->outlets <= (w->outlets ? w->q.count / 5 : w->q.count / 4 * 3);
 }
 
@@ -85,8 +86,18 @@ static int make_costs(job *w) {
     return w->costs ? write_costs(w) : SIGDORF_MEMORY;
 }
 
-/* Prices to start from in the unit of the costs: the caller's are in that of whole costs. */
+/* A price of whole units, of one in the unit of the costs. */
+static int64_t whole_price(const job *w, double amount) {
+    double price = ldexp(amount * (double)(w->persons + 1), w->unit) + 0.5;
+    return price >= (double)SIGDORF_HIGHEST_START ? SIGDORF_HIGHEST_START : price > 0 ? (int64_t)price : 0;
+}
+
+/* Prices to start from in whole units: the caller's are those of whole costs, or in the unit of the costs. */
 static void write_start(const job *w, int64_t *to) {
+    if (w->q.start_amounts) {
+        for (size_t j = 0; j < w->q.starts; j++) to[j] = whole_price(w, w->q.start_amounts[j]);
+        return;
+    }
     int finer = w->unit > 0 ? w->unit : 0, coarser = w->unit < 0 ? -w->unit : 0;
     for (size_t j = 0; j < w->q.starts; j++) {
         int64_t price = w->q.start[j];
@@ -177,7 +188,7 @@ int begin_job(job *w, workshop *shop, const library *calls, int maximize) {
     w->outlets = q->has_limit ? w->persons : 0;
     w->objects = w->width + w->outlets;
     return w->persons < 1 || w->persons > SIGDORF_MOST_PERSONS || w->objects > SIGDORF_MOST_OBJECTS ||
-           (q->start && q->starts != w->objects);
+           ((q->start || q->start_amounts) && q->starts != w->objects);
 }
 
 int run(job *w) {

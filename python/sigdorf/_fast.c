@@ -23,7 +23,7 @@
 #include "levels.h"
 
 /* Rises where what Python calls changes, so that an extension of other sources isn't used: fast.py has the same. */
-#define INTERFACE 6
+#define INTERFACE 7
 /* With fewer entries a call holds the lock: what giving it up costs would count. */
 #define FEWEST 2000
 /* So many bytes of working memory at most are kept for the next call. */
@@ -121,15 +121,20 @@ static int take_limit(question *q, PyObject *given) {
     return PyErr_Occurred() || !(fabs(q->limit) <= DBL_MAX);
 }
 
-/* None, or prices. */
+/* None, or prices: whole numbers, or doubles in the unit of the costs. */
 static int take_start(task *t, PyObject *given) {
     question *q = &t->w.q;
     if (given == Py_None) return 0;
     char type = q->type;
-    Py_buffer *view = numbers_of(t, given, "q", 1);
+    Py_buffer *view = numbers_of(t, given, "qd", 1);
+    int are_amounts = q->type == 'd';
     q->type = type;
     if (!view) return 1;
-    q->start = view->buf, q->starts = (size_t)view->shape[0];
+    q->starts = (size_t)view->shape[0];
+    if (are_amounts)
+        q->start_amounts = view->buf;
+    else
+        q->start = view->buf;
     return 0;
 }
 

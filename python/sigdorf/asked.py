@@ -10,7 +10,7 @@ from .faults import Unsettled
 from .library import START_FAULTS, USUAL_BIDS
 from .matrices import is_sparse, lists_of_matrix, numbers_of, without_missing
 from .problem import Problem, lists_of
-from .starts import finer_by, in_whole_units, kept_of, made_smaller
+from .starts import kept_of
 from .tables import NUMBERS, named
 
 NO_ASSIGNMENT = "no full assignment exists"
@@ -129,16 +129,9 @@ class Asked:
         """The Solution, of decimals in whole units, or None."""
         # Decimals are turned already.
         maximize = self.maximize and self.decimals is None
-        if start is None or start.dtype.kind != "f":
-            return fast.solution_of(self.plain(), maximize, start, bids)
-        factor = (min(self.sides) + 1) * (1 if self.decimals is None else self.problem.decimal_scale)
-        costs = fast.plain(self.costs)
-        finer = finer_by(costs) if self.decimals is None and costs.dtype.kind == "f" else 0
-        start = in_whole_units(start, factor, finer)
-        if not finer:
-            return fast.solution_of(self.plain(), maximize, start, bids)
-        found = fast.solution_of(self.plain(numpy.ldexp(costs, finer)), maximize, start, bids)
-        return None if found is None else made_smaller(found, finer)
+        if self.decimals is not None and start is not None and start.dtype.kind == "f":
+            start = start * self.problem.decimal_scale
+        return fast.solution_of(self.plain(), maximize, start, bids)
 
     def check(self, solution):
         """Raises Refused where a Solution isn't least."""

@@ -1,12 +1,7 @@
 """Where a search may start from: the duals of an earlier solution as prices, whatever the unit of its costs was."""
-import fractions
-import math
-
 import numpy
 
-from .amounts import nearest_float, outer_bound
 from .arguments import HIGHEST_START, attempt
-from .costs import BITS, are_small
 from .duals import has_row_prices
 from .solution import Solution
 from .tables import NUMBERS
@@ -58,21 +53,3 @@ def in_whole_units(prices, factor, finer):
     """Prices as the library takes them: whole numbers of so many a unit of 2^-finer."""
     with numpy.errstate(all="ignore"):
         return numpy.clip(numpy.rint(numpy.ldexp(prices * factor, finer)), 0, HIGHEST_START).astype(numpy.int64)
-
-
-def finer_by(costs):
-    """By how many powers of two floats have to be greater, so that whole prices are fine enough to start from."""
-    finite = costs[numpy.isfinite(costs)]
-    return 0 if are_small(finite) else max(0, BITS - math.frexp(max(-finite.min(), finite.max()))[1])
-
-
-def made_smaller(solution, finer):
-    """The Solution of the caller's costs, of one of costs that are greater by so many powers of two."""
-    costs = numpy.ldexp(solution.costs, -finer)
-    exact, gap = (fractions.Fraction(amount) / (1 << finer) for amount in (solution.exact_cost, solution.gap))
-    shown = bound = nearest_float(exact)
-    if gap:
-        bound = outer_bound(exact + gap if solution.maximize else exact - gap, solution.maximize, False)
-    return solution._replace(
-        cost=shown, bound=bound, scale=solution.scale << finer, exact_cost=exact, gap=gap or 0, costs=costs
-    )

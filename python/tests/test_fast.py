@@ -236,7 +236,7 @@ class Fast(Limited):
                         (two, ones, ones, 2, 2), (two.astype("i4"), two, ones, 2, 2), (two, two, numpy.array([1, numpy.inf]), 2, 2), (two, two, ones * numpy.nan, 2, 2), (two, two, ones, 2, "2"), (two, two, ones, 10**30, 2)]:
             self.assertIsNone(solved(problem), problem)
         matrix = numpy.eye(2)
-        for limit, start, bids in [("1", None, 9), (numpy.inf, None, 9), (numpy.nan, None, 9), (None, two.astype(float), 9), (None, numpy.arange(3), 9), (None, None, -1), (None, None, 2**64), (None, None, 0.5)]:
+        for limit, start, bids in [("1", None, 9), (numpy.inf, None, 9), (numpy.nan, None, 9), (None, two.astype("f4"), 9), (None, numpy.arange(3), 9), (None, None, -1), (None, None, 2**64), (None, None, 0.5)]:
             self.assertIsNone(extension.found(matrix, False, False, limit, start, bids))
         for arguments in [(), (matrix,), (matrix, 1, True, None, None, 9), (matrix, None, True, None, None, 9), (matrix, False, 1, None, None, 9), (matrix, False)]:
             with self.assertRaises(TypeError):

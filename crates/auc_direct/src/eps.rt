@@ -3,10 +3,10 @@
 ghost use Rattle.std.specs.Prelude.{◌≡◌, ◌^◌, pos, ◌<ℤ◌, ◌≤ℤ◌, IfSome, IfNone};
 ghost use Rattle.auc_market.specs.Eps.{IsEpsOf};
 
-use crate::tuning::EPS_DIVISOR;
 use auc_graph::MOST_OBJECTS;
 use auc_market::LAST_EPS;
 use auc_rows::FlatRows;
+use auc_table::EPS_DIVISOR;
 
 /// The square root of the greatest number of objects, which a row is taken to have no more arcs than.
 const MOST_ROOT: i64 = 2_048;

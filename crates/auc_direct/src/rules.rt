@@ -21,11 +21,12 @@
 //!    to have price 0.
 
 use crate::tuning::{
-    CALM_BIDS_PER_PERSON, EPS_DIVISOR, FREE_DIVISOR, START_BIDS_PER_PERSON, TABLE_SCANS_PER_ENTRY,
+    CALM_BIDS_PER_PERSON, FREE_DIVISOR, START_BIDS_PER_PERSON, TABLE_SCANS_PER_ENTRY,
     TIES_BIDS_PER_PERSON,
 };
 use auc_market::{Attempt, LAST_EPS};
 use auc_rows::FlatRows;
+use auc_table::EPS_DIVISOR;
 
 /// How often eps is divided by this number until it is 1.
 fn divisions(eps: i64, divisor: i64) -> u64 {

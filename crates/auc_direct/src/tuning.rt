@@ -1,9 +1,7 @@
-//! The tuning numbers of a run. Only speed depends on them. The lengths of candidate lists are in `auc_market`.
+//! The tuning numbers of a run. Only speed depends on them. The lengths of candidate lists are in `auc_market`;
+//! by what eps is divided, in `auc_table`.
 
 use auc_market::Pacing;
-
-/// Eps is divided by this from phase to phase. From 4 to 16 whole runs take about as long.
-pub(crate) const EPS_DIVISOR: i64 = 8;
 
 /// The spread and the ties of at least this many rows are taken, where there are as many.
 pub(crate) const SAMPLED_ROWS: u32 = 512;

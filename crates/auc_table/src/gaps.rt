@@ -1,7 +1,7 @@
 //! Gaps of a table, which are read as entries of a very high cost.
 
 /// The cost of a gap: above the greatest difference in cost of two assignments without gaps.
-const GAP_COST: i64 = 70_368_744_177_664;
+pub(crate) const GAP_COST: i64 = 70_368_744_177_664;
 
 /// What a search takes for a gap: an entry that equals this number, or nothing. Each of both has passes of its own,
 /// since to look for gaps takes time.
@@ -14,16 +14,6 @@ impl<const IS_ANY: bool> Gap<IS_ANY> {
     pub(crate) fn cost_of(self, entry: i64) -> i64 {
         if IS_ANY && entry == self.0 {
             GAP_COST
-        } else {
-            entry
-        }
-    }
-
-    /// The cost of an entry, where a gap is read as one of a very low cost.
-    #[inline(always)]
-    pub(crate) fn low_cost_of(self, entry: i64) -> i64 {
-        if IS_ANY && entry == self.0 {
-            -GAP_COST
         } else {
             entry
         }

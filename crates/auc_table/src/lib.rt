@@ -18,5 +18,6 @@ mod proposal;
 mod start;
 mod table;
 
+pub use phases::EPS_DIVISOR;
 pub use proposal::{Proposal, propose};
 pub use table::Table;

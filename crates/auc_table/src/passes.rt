@@ -28,23 +28,6 @@ pub(crate) fn least_value<const G: bool>(gap: Gap<G>, row: &[i64], keys: &[i64])
     least
 }
 
-/// The greatest entry of a row that is no gap less the least one; 0 where there is none.
-#[inline(never)]
-pub(crate) fn spread_of<const G: bool>(gap: Gap<G>, row: &[i64]) -> i64 {
-    let mut least = i64::MAX;
-    let mut greatest = i64::MIN;
-    for object in 0..row.len() {
-        let high = gap.cost_of(row[object]);
-        let low = gap.low_cost_of(row[object]);
-        least = if high < least { high } else { least };
-        greatest = if greatest < low { low } else { greatest };
-    }
-    if greatest < least {
-        return 0;
-    }
-    greatest.wrapping_sub(least)
-}
-
 /// The first object whose entry has this value.
 pub(crate) fn object_of_value<const G: bool>(
     gap: Gap<G>,

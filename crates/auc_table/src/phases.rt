@@ -1,12 +1,11 @@
 //! Prices by an auction with epsilon scaling (Bertsekas, 1979), from which few persons have to take a path.
 
-use crate::gaps::Gap;
+use crate::gaps::{GAP_COST, Gap};
 use crate::market::Market;
-use crate::passes::spread_of;
 use crate::table::{Table, row_of};
 
-/// The first eps is the mean spread of a row divided by this, and eps is divided by this from phase to phase.
-const EPS_DIVISOR: i64 = 8;
+/// Eps is divided by this from phase to phase. From 4 to 16 whole runs take about as long.
+pub const EPS_DIVISOR: i64 = 8;
 
 /// How often a phase, and paths before phases, may pass over the table. Phases mostly take a quarter of it; in a table
 /// with gaps prices may have far to rise.
@@ -22,11 +21,20 @@ pub(crate) fn scans_of_paths(table: &Table) -> u64 {
     entries.saturating_mul(u64::from(PASSES.max(table.persons / PARTS_OF_WORST)))
 }
 
-/// The mean spread of a row.
+/// The mean spread of a row, without gaps.
 fn mean_spread<const G: bool>(table: &Table, gap: Gap<G>) -> i64 {
     let mut sum: i64 = 0;
     for person in 0..table.persons {
-        sum = sum.saturating_add(spread_of(gap, row_of(table, person)));
+        let row = row_of(table, person);
+        let mut least = GAP_COST;
+        let mut greatest = -GAP_COST;
+        for object in 0..row.len() {
+            let cost = gap.cost_of(row[object]);
+            let low = if cost == GAP_COST { -GAP_COST } else { cost };
+            least = if cost < least { cost } else { least };
+            greatest = if greatest < low { low } else { greatest };
+        }
+        sum = sum.saturating_add(greatest.wrapping_sub(least).max(0));
     }
     sum.checked_div(i64::from(table.persons)).unwrap_or(0)
 }
@@ -50,9 +58,9 @@ fn play<const G: bool>(table: &Table, gap: Gap<G>, market: &mut Market, eps: i64
     }
 }
 
-/// Raises the prices of a market with as many objects as persons in phases, after which nobody holds anything. Eps falls
-/// below an eighth of the mean spread of a row divided by the number of objects. Where costs are random, that is the
-/// difference between neighbouring costs.
+/// Raises the prices of a market with as many objects as persons in phases, after which nobody holds anything. Eps
+/// falls from the mean spread of a row to an eighth of that spread divided by the number of objects. Where costs are
+/// random, neighbouring ones differ by so much.
 pub(crate) fn raise_prices<const G: bool>(
     table: &Table,
     gap: Gap<G>,

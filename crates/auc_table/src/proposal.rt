@@ -119,9 +119,9 @@ fn propose_by<const G: bool>(
 /// object should be better for a person than the person's own, and an object that nobody has should have price 0.
 ///
 /// The method is a row reduction, which is an auction at eps 0 that gives up early, and then shortest augmenting paths.
-/// Source: Jonker and Volgenant, "A shortest augmenting path algorithm for dense and sparse linear assignment problems",
-/// Computing 38, 1987. With as many objects as persons, where that takes long, it begins anew from the prices of an
-/// auction with epsilon scaling.
+/// Source: Jonker and Volgenant, "A shortest augmenting path algorithm for dense and sparse linear assignment
+/// problems", Computing 38, 1987. With as many objects as persons, where that takes long, it begins anew from the
+/// prices of an auction with epsilon scaling.
 ///
 /// Takes O(persons^2 * objects) time at most, and at most 44 bytes of memory an object and 4 a person.
 ///

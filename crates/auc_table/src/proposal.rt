@@ -1,7 +1,7 @@
 //! The proposal of the search.
 
 use crate::gaps::Gap;
-use crate::market::{Market, NOBODY};
+use crate::market::{CHAIN_BIDS, Market, NOBODY};
 use crate::paths::Search;
 use crate::phases::{raise_prices, scans_of_paths};
 use crate::start::start_keys;
@@ -31,31 +31,45 @@ fn reduce_rows<const G: bool>(table: &Table, gap: Gap<G>, market: &mut Market, s
     market.count_free()
 }
 
-/// A person who has nothing takes a path. Returns whether each person has an object: not where there are too few
-/// objects, or where the limit on scanned entries is reached.
+/// The persons who have nothing, so many, each take a path. Returns whether each person has an object: not where there
+/// are too few objects, nor where the limit on scanned entries is reached. Once paths have scanned as much as a row
+/// reduction may, they are given up where others as long as their mean, and as the last one, would reach the limit.
 fn augment<const G: bool>(
     table: &Table,
     market: &mut Market,
     search: &mut Search<G>,
+    free: u32,
     scans: u64,
 ) -> Result<bool, AllocError> {
+    let all = u64::from(free);
+    let before = market.scanned;
+    let entries = u64::from(table.persons).saturating_mul(u64::from(table.objects));
+    let enough = entries.saturating_mul(u64::from(CHAIN_BIDS));
+    let mut last: u64 = 0;
+    let mut done: u64 = 0;
     for person in 0..table.persons {
-        if scans < market.scanned {
-            return Ok(false);
-        }
         let own = market.owns.get(person as usize);
         if own.is_none_or(|object| *object != NOBODY) {
             continue;
         }
+        let taken = market.scanned.saturating_sub(before);
+        let are_long = taken.saturating_mul(all) > scans.saturating_mul(done)
+            && last.saturating_mul(all.saturating_sub(done)) > scans;
+        if scans < market.scanned || enough < taken && are_long {
+            return Ok(false);
+        }
+        let earlier = market.scanned;
         if !search.go(table, market, person)? {
             return Ok(false);
         }
+        last = market.scanned.saturating_sub(earlier);
+        done = done.saturating_add(1);
     }
     Ok(true)
 }
 
-/// Gives each person an object. Where most have nothing after the row reduction, or where paths take long, an auction
-/// raises the prices first. With more objects than persons none does, since what nobody takes has to keep price 0.
+/// Gives each person an object. Where paths are long, an auction raises the prices first. With more objects than
+/// persons none does, since what nobody takes has to keep price 0.
 fn assign_all<const G: bool>(
     table: &Table,
     gap: Gap<G>,
@@ -63,16 +77,16 @@ fn assign_all<const G: bool>(
     search: &mut Search<G>,
     scans: u64,
 ) -> Result<bool, AllocError> {
-    let free = reduce_rows(table, gap, market, scans);
+    let mut free = reduce_rows(table, gap, market, scans);
     if table.persons == table.objects {
         let few = scans.min(scans_of_paths(table));
-        if free <= table.persons / 2 && augment(table, market, search, few)? {
+        if augment(table, market, search, free, few)? {
             return Ok(true);
         }
         raise_prices(table, gap, market, scans);
-        reduce_rows(table, gap, market, scans);
+        free = reduce_rows(table, gap, market, scans);
     }
-    augment(table, market, search, scans)
+    augment(table, market, search, free, scans)
 }
 
 /// Searches a table with such gaps.

@@ -126,8 +126,8 @@ static int32_t ask_library(job *w, sigdorf_found *found) {
     return status;
 }
 
-/* Whether choices are entries, and take no object twice: what is proved of the library is no reason to trust whatever
- * was bound in its place. Those of a table become numbers of entries. */
+/* Whether choices are entries and no gaps, and take no object twice: what is proved of the library is no reason to trust
+ * whatever was bound in its place. Those of a table become numbers of entries. */
 static int are_entries(job *w) {
     uint8_t *taken = block_of(&w->shop->level, w->objects);
     if (!taken) return SIGDORF_MEMORY;
@@ -137,6 +137,7 @@ static int are_entries(job *w) {
         if (w->arcs ? choice < w->first[i] || choice >= w->first[i + 1] : choice >= w->width) return STRANGE;
         if (!w->arcs) choice += i * w->width;
         w->choice[i] = (uint32_t)choice;
+        if (whole_at(w, choice) == NO_ENTRY) return STRANGE;
         if (taken[object_of(w, i, choice)]++) return STRANGE;
     }
     return 0;

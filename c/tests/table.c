@@ -238,7 +238,7 @@ static int passes(const given *g, const told *t) {
 static int agrees(const given *g, const told *table, const told *list) {
     if (memcmp(table, list, sizeof *table) == 0)
         return 1;
-    if (table->status != SIGDORF_OPTIMAL || g->start_len != 0 || !passes(g, table))
+    if (table->status != SIGDORF_OPTIMAL || !passes(g, table))
         return 0;
     return list->status == SIGDORF_OPTIMAL ? table->found.cost == list->found.cost : list->status == SIGDORF_BRACKET;
 }

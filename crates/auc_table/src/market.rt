@@ -9,7 +9,7 @@ use std::alloc::{AllocError, Global};
 pub(crate) const NOBODY: u32 = 4_294_967_295;
 
 /// The number of bids of a chain of displaced persons. The person displaced by the last one takes a path.
-pub(crate) const CHAIN_BIDS: u32 = 4;
+const CHAIN_BIDS: u32 = 4;
 
 /// The best object of a person, and the margin: how much its price may rise until another one is as good; 0 where there
 /// is no other one.

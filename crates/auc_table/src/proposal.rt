@@ -1,7 +1,7 @@
 //! The proposal of the search.
 
 use crate::gaps::Gap;
-use crate::market::{CHAIN_BIDS, Market, NOBODY};
+use crate::market::{Market, NOBODY};
 use crate::paths::Search;
 use crate::phases::{raise_prices, scans_of_paths};
 use crate::start::start_keys;
@@ -32,8 +32,9 @@ fn reduce_rows<const G: bool>(table: &Table, gap: Gap<G>, market: &mut Market, s
 }
 
 /// The persons who have nothing, so many, each take a path. Returns whether each person has an object: not where there
-/// are too few objects, nor where the limit on scanned entries is reached. Once paths have scanned as much as a row
-/// reduction may, they are given up where others as long as their mean, and as the last one, would reach the limit.
+/// are too few objects, nor where the limit on scanned entries is reached. Once paths have scanned a quarter of it,
+/// they are given up where others as long as their mean, and as the last one, would reach it. The first ones may be
+/// long.
 fn augment<const G: bool>(
     table: &Table,
     market: &mut Market,
@@ -43,8 +44,6 @@ fn augment<const G: bool>(
 ) -> Result<bool, AllocError> {
     let all = u64::from(free);
     let before = market.scanned;
-    let entries = u64::from(table.persons).saturating_mul(u64::from(table.objects));
-    let enough = entries.saturating_mul(u64::from(CHAIN_BIDS));
     let mut last: u64 = 0;
     let mut done: u64 = 0;
     for person in 0..table.persons {
@@ -55,7 +54,7 @@ fn augment<const G: bool>(
         let taken = market.scanned.saturating_sub(before);
         let are_long = taken.saturating_mul(all) > scans.saturating_mul(done)
             && last.saturating_mul(all.saturating_sub(done)) > scans;
-        if scans < market.scanned || enough < taken && are_long {
+        if scans < market.scanned || scans / 4 < taken && are_long {
             return Ok(false);
         }
         let earlier = market.scanned;

@@ -60,14 +60,14 @@ fn nothing(rt: HostRuntime) {
     assert_same(&rt, proposed(&rt, 3, &costs[..8], None, ENOUGH), None);
 }
 
-/// How many rows the table of products has. Row reduction and paths alone pass over it forty times, so the auction is
+/// How many rows the table of products has: so many that paths alone would pass over it too often, and the auction is
 /// played.
-const PRODUCTS: u32 = 80;
+const PRODUCTS: u32 = 320;
 
 /// What is proposed for the table of products, from these prices times two.
 fn of_products(rt: &HostRuntime, start: &[i64], looks: u64) -> Option<Proposal> {
     let many = PRODUCTS as usize;
-    let mut costs = [0; 6_400];
+    let mut costs = vec![in rt.alloc(); 0; many * many].ok()?;
     for person in 0..many {
         for object in 0..many {
             costs[person * many + object] = ((person + 1) * (object + 1)) as i64;
@@ -77,7 +77,7 @@ fn of_products(rt: &HostRuntime, start: &[i64], looks: u64) -> Option<Proposal> 
         persons: PRODUCTS,
         objects: PRODUCTS,
         stride: many,
-        costs: &costs,
+        costs: costs.as_slice(),
     };
     propose(rt.alloc(), &table, None, start, 2, looks).ok()?
 }
@@ -101,11 +101,11 @@ fn by_phases(rt: HostRuntime) {
 /// From the prices found before, four passes are enough, but not from others.
 #[test]
 fn from_prices(rt: HostRuntime) {
-    let looks = 4 * 6_400;
+    let looks = 4 * 102_400;
     assert_same(&rt, of_products(&rt, &[], looks).is_some(), false);
-    let mut start = [0; 80];
+    let mut start = [0; 320];
     if let Some(before) = of_products(&rt, &[], u64::MAX) {
-        for object in 0..before.prices.len().min(80) {
+        for object in 0..before.prices.len().min(320) {
             start[object] = before.prices[object].wrapping_mul(2);
         }
     }

@@ -58,9 +58,9 @@ def solve(
         has each forced pair, and no forbidden one. A forced pair is an entry.
     capacity: how many rows a column may take, a whole number or a list with one of each column. Each row gets a column
         then, and a column appears in the solution as often as it is taken.
-    start: an earlier Solution of a problem like this one, of any costs, from whose duals the search begins. That pays
-        where a search is hard (tables of products of 400 rows took a quarter of the time); easy ones take longer by
-        it, up to six times. Where its duals don't fit, as of another number of columns, it is dropped. Or prices from
+    start: an earlier Solution of a problem like this one, of any costs, from whose duals the search begins. Square
+        tables of 400 rows took 0.4 to 1.1 of the time, 1.2 from another problem's duals. Where its duals don't fit,
+        as of another number of columns, it is dropped. Or prices from
         0 to 2^60, on the scale of whole costs times the smaller side + 1 (of decimals, 10^decimals times that); they
         may be wrong. :class:`Solver` does this for problems that follow one another.
     bids: how many bids a phase may take, from 0 to 2^64 - 1. The usual 10^8 are 1,000 for each of the smaller side where

@@ -227,6 +227,9 @@ pub fn solve_direct(
 /// A limit on bids counts from the prices that are left then: clause `limit`. With as many objects as persons these are
 /// the start's.
 ///
+/// With as many objects as persons a full table is searched as a table before that, from the start where this gives a
+/// greater lower bound than prices of 0. So an old certificate's prices may come back as others.
+///
 /// With as many objects as persons, four bids a person may not give each person an object. Then the run goes on from
 /// there in phases, as one without a start does.
 ///

@@ -59,8 +59,8 @@ fn play<const G: bool>(table: &Table, gap: Gap<G>, market: &mut Market, eps: i64
 }
 
 /// Raises the prices of a market with as many objects as persons in phases, after which nobody holds anything. Eps
-/// falls from the mean spread of a row to an eighth of that spread divided by the number of objects. Where costs are
-/// random, neighbouring ones differ by so much.
+/// falls from an eighth of the mean spread of a row to an eighth of that spread divided by the number of objects. Where
+/// costs are random, this quotient is the difference between neighbouring ones.
 pub(crate) fn raise_prices<const G: bool>(
     table: &Table,
     gap: Gap<G>,

@@ -12,14 +12,10 @@ pub const EPS_DIVISOR: i64 = 8;
 /// with gaps prices may have far to rise.
 const PASSES: u32 = 64;
 
-/// In a large table paths before phases may take one part in this many of what they take at worst, a pass for each
-/// person. Costs by chance and distances take less.
-const PARTS_OF_WORST: u32 = 32;
-
 /// The number of entries that paths may scan before phases are played.
 pub(crate) fn scans_of_paths(table: &Table) -> u64 {
     let entries = u64::from(table.persons).saturating_mul(u64::from(table.objects));
-    entries.saturating_mul(u64::from(PASSES.max(table.persons / PARTS_OF_WORST)))
+    entries.saturating_mul(u64::from(PASSES))
 }
 
 /// The mean spread of a row at these keys, without gaps.

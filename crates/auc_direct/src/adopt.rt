@@ -7,6 +7,7 @@ ghost use Rattle.auc_market.specs.Market.{HaveObjects, Stands};
 ghost use Rattle.auc_market.specs.Starts.{ArePricesOf};
 
 use crate::pausing::Pausing;
+use crate::rules::scans_of_table;
 use auc_graph::MOST_PRICE;
 use auc_market::{Holdings, Watch, tried};
 use auc_rows::FlatRows;
@@ -56,8 +57,8 @@ fn scaled_prices(rows: &FlatRows, mut prices: Vec<i64>) -> Option<Vec<i64>>
     Some(prices)
 }
 
-/// Solves a full table by a search, and tries its proposal. The search begins at scaled start prices, where there are
-/// such. None where the rows aren't a full table, where the proposal doesn't show a least assignment, or after a no.
+/// Solves a full table by a search that may scan as much as `scans_of_table` says, and tries its proposal. The search
+/// begins at scaled start prices, where there are such. None where the rows aren't a full table, where the proposal doesn't show a least assignment, or after a no.
 /// Takes O(persons * objects) time and 8 bytes of memory an arc beside the search.
 ///
 /// # Errors
@@ -85,7 +86,16 @@ fn adopted<P: Pause>(
         costs: costs.as_slice(),
     };
     let scale = rows.scale();
-    let Some(proposal) = propose(alloc, &table, None, start, scale, u64::MAX, pause)? else {
+    let Some(proposal) = propose(
+        alloc,
+        &table,
+        None,
+        start,
+        scale,
+        scans_of_table(rows),
+        pause,
+    )?
+    else {
         return Ok(None);
     };
     let Proposal {

@@ -25,7 +25,7 @@ use crate::tuning::{
 };
 use auc_market::{Attempt, LAST_EPS};
 use auc_rows::FlatRows;
-use auc_table::EPS_DIVISOR;
+use auc_table::{EPS_DIVISOR, PASSES};
 
 /// How often eps is divided by this number until it is 1.
 fn divisions(eps: i64, divisor: i64) -> u64 {
@@ -88,4 +88,14 @@ pub(crate) fn attempt_with_ties(rows: &FlatRows, are_there: bool) -> Attempt {
 /// The last phase from start prices, with as many objects as persons.
 pub(crate) fn attempt_from_start(rows: &FlatRows, is_start: bool) -> Attempt {
     attempt_of(rows, if is_start { START_BIDS_PER_PERSON } else { 0 })
+}
+
+/// The number of entries that the search of a full table may scan. Paths may pass over it so often, and so may a phase.
+/// Where that doesn't do, lists of candidates are mostly faster. With more objects than persons it is any number: one
+/// phase at the last eps would take far longer.
+pub(crate) fn scans_of_table(rows: &FlatRows) -> u64 {
+    if rows.persons() < rows.objects() {
+        return u64::MAX;
+    }
+    u64::from(2 * PASSES).saturating_mul(rows.arc_count() as u64)
 }

@@ -20,6 +20,6 @@ mod start;
 mod table;
 
 pub use pause::Pause;
-pub use phases::EPS_DIVISOR;
+pub use phases::{EPS_DIVISOR, PASSES};
 pub use proposal::{Proposal, propose};
 pub use table::Table;

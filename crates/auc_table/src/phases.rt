@@ -10,7 +10,7 @@ pub const EPS_DIVISOR: i64 = 8;
 
 /// How often a phase, and paths before phases, may pass over the table. Phases mostly take a quarter of it; in a table
 /// with gaps prices may have far to rise.
-const PASSES: u32 = 64;
+pub const PASSES: u32 = 64;
 
 /// The number of entries that paths may scan before phases are played.
 pub(crate) fn scans_of_paths(table: &Table) -> u64 {

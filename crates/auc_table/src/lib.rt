@@ -13,11 +13,13 @@ mod gaps;
 mod market;
 mod passes;
 mod paths;
+mod pause;
 mod phases;
 mod proposal;
 mod start;
 mod table;
 
+pub use pause::Pause;
 pub use phases::EPS_DIVISOR;
 pub use proposal::{Proposal, propose};
 pub use table::Table;

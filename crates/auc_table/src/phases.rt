@@ -2,6 +2,7 @@
 
 use crate::gaps::{GAP_COST, Gap};
 use crate::market::Market;
+use crate::pause::{Budget, Pause};
 use crate::table::{Table, row_of};
 
 /// Eps is divided by this from phase to phase. From 4 to 16 whole runs take about as long.
@@ -40,7 +41,13 @@ fn mean_spread<const G: bool>(table: &Table, gap: Gap<G>) -> i64 {
 }
 
 /// A phase, in which persons bid until each has an object.
-fn play<const G: bool>(table: &Table, gap: Gap<G>, market: &mut Market, eps: i64) {
+fn play<P: Pause, const G: bool>(
+    table: &Table,
+    gap: Gap<G>,
+    market: &mut Market,
+    eps: i64,
+    budget: &mut Budget<'_, P>,
+) {
     market.release();
     let mut bidder = 0;
     let mut begun: u32 = 0;
@@ -52,7 +59,7 @@ fn play<const G: bool>(table: &Table, gap: Gap<G>, market: &mut Market, eps: i64
                 bidder = begun;
             }
         }
-        if table.persons <= begun {
+        if table.persons <= begun || budget.is_spent(market.scanned) {
             return;
         }
     }
@@ -61,22 +68,22 @@ fn play<const G: bool>(table: &Table, gap: Gap<G>, market: &mut Market, eps: i64
 /// Raises the prices of a market with as many objects as persons in phases, after which nobody holds anything. Eps
 /// falls from an eighth of the mean spread of a row to an eighth of that spread divided by the number of objects. Where
 /// costs are random, this quotient is the difference between neighbouring ones.
-pub(crate) fn raise_prices<const G: bool>(
+pub(crate) fn raise_prices<P: Pause, const G: bool>(
     table: &Table,
     gap: Gap<G>,
     market: &mut Market,
-    scans: u64,
+    budget: &mut Budget<'_, P>,
 ) {
     let spread = mean_spread(table, gap);
     let between = spread.checked_div(i64::from(table.objects)).unwrap_or(0);
     let last = between.checked_div(EPS_DIVISOR).unwrap_or(0);
     let mut eps = spread;
     for _ in 0..64 {
-        if scans < market.scanned || eps <= last || eps <= 1 {
+        if eps <= last || eps <= 1 || budget.is_spent(market.scanned) {
             break;
         }
         eps = eps.checked_div(EPS_DIVISOR).unwrap_or(0).max(1);
-        play(table, gap, market, eps);
+        play(table, gap, market, eps, budget);
     }
     market.release();
 }

@@ -3,6 +3,7 @@
 use crate::gaps::Gap;
 use crate::market::{Market, NOBODY};
 use crate::paths::Search;
+use crate::pause::{Budget, Pause};
 use crate::phases::{raise_prices, scans_of_paths};
 use crate::start::start_keys;
 use crate::table::Table;
@@ -21,9 +22,14 @@ pub struct Proposal {
 
 /// Each person bids once in order, and the persons displaced bid a few times (row reduction). Returns how many persons
 /// have nothing then.
-fn reduce_rows<const G: bool>(table: &Table, gap: Gap<G>, market: &mut Market, scans: u64) -> u32 {
+fn reduce_rows<P: Pause, const G: bool>(
+    table: &Table,
+    gap: Gap<G>,
+    market: &mut Market,
+    budget: &mut Budget<'_, P>,
+) -> u32 {
     for person in 0..table.persons {
-        if scans < market.scanned {
+        if budget.is_spent(market.scanned) {
             break;
         }
         market.bid_in_chain(table, gap, person);
@@ -32,15 +38,15 @@ fn reduce_rows<const G: bool>(table: &Table, gap: Gap<G>, market: &mut Market, s
 }
 
 /// The persons who have nothing, so many, each take a path. Returns whether each person has an object: not where there
-/// are too few objects, nor where the limit on scanned entries is reached. Once paths have scanned a quarter of it,
-/// they are given up where others as long as their mean, and as the last one, would reach it. The first ones may be
-/// long.
-fn augment<const G: bool>(
+/// are too few objects, nor where the budget is spent. Once paths have scanned a quarter of `scans`, they are given up
+/// where others as long as their mean, and as the last one, would come to `scans`. The first ones may be long.
+fn augment<P: Pause, const G: bool>(
     table: &Table,
     market: &mut Market,
     search: &mut Search<G>,
     free: u32,
     scans: u64,
+    budget: &mut Budget<'_, P>,
 ) -> Result<bool, AllocError> {
     let all = u64::from(free);
     let before = market.scanned;
@@ -54,7 +60,8 @@ fn augment<const G: bool>(
         let taken = market.scanned.saturating_sub(before);
         let are_long = taken.saturating_mul(all) > scans.saturating_mul(done)
             && last.saturating_mul(all.saturating_sub(done)) > scans;
-        if scans < market.scanned || scans / 4 < taken && are_long {
+        let is_over = scans < market.scanned || scans / 4 < taken && are_long;
+        if is_over || budget.is_spent(market.scanned) {
             return Ok(false);
         }
         let earlier = market.scanned;
@@ -69,38 +76,39 @@ fn augment<const G: bool>(
 
 /// Gives each person an object. Where paths are long, an auction raises the prices first. With more objects than
 /// persons none does, since what nobody takes has to keep price 0.
-fn assign_all<const G: bool>(
+fn assign_all<P: Pause, const G: bool>(
     table: &Table,
     gap: Gap<G>,
     market: &mut Market,
     search: &mut Search<G>,
-    scans: u64,
+    budget: &mut Budget<'_, P>,
 ) -> Result<bool, AllocError> {
-    let mut free = reduce_rows(table, gap, market, scans);
+    let mut free = reduce_rows(table, gap, market, budget);
     if table.persons == table.objects {
-        let few = scans.min(scans_of_paths(table));
-        if augment(table, market, search, free, few)? {
+        let few = budget.scans().min(scans_of_paths(table));
+        if augment(table, market, search, free, few, budget)? {
             return Ok(true);
         }
-        raise_prices(table, gap, market, scans);
-        free = reduce_rows(table, gap, market, scans);
+        raise_prices(table, gap, market, budget);
+        free = reduce_rows(table, gap, market, budget);
     }
-    augment(table, market, search, free, scans)
+    let scans = budget.scans();
+    augment(table, market, search, free, scans, budget)
 }
 
 /// Searches a table with such gaps.
-fn propose_by<const G: bool>(
+fn propose_by<P: Pause, const G: bool>(
     alloc: Global,
     table: &Table,
     gap: Gap<G>,
     start: &[i64],
     scale: i64,
-    scans: u64,
+    mut budget: Budget<'_, P>,
 ) -> Result<Option<Proposal>, AllocError> {
     let keys = start_keys(alloc, table, gap, start, scale)?;
     let mut market = Market::new(alloc, table.persons, keys)?;
     let mut search = Search::new(alloc, gap, table.objects)?;
-    if !assign_all(table, gap, &mut market, &mut search, scans)? {
+    if !assign_all(table, gap, &mut market, &mut search, &mut budget)? {
         return Ok(None);
     }
     let Market {
@@ -121,7 +129,8 @@ fn propose_by<const G: bool>(
 }
 
 /// Searches for a least assignment of a table, where an entry that equals `gap` is a gap. It scans some more than
-/// `scans` entries at most. Where that doesn't suffice, or there are fewer objects than persons, it returns None.
+/// `scans` entries at most. Where that doesn't suffice, or there are fewer objects than persons, it returns None. So it
+/// does where `pause` says no, which is asked before each bid outside of a chain and before each path.
 ///
 /// Where `start` has a price for each object, in costs of the table times `scale`, and there are as many objects as
 /// persons, the search starts from these prices if they give a greater lower bound than prices of 0 (weak duality).
@@ -141,16 +150,18 @@ fn propose_by<const G: bool>(
 /// # Errors
 ///
 /// Only where memory was refused.
-pub fn propose(
+pub fn propose<P: Pause>(
     alloc: Global,
     table: &Table,
     gap: Option<i64>,
     start: &[i64],
     scale: i64,
     scans: u64,
+    pause: &mut P,
 ) -> Result<Option<Proposal>, AllocError> {
+    let budget = Budget::new(scans, pause);
     match gap {
-        Some(gap) => propose_by(alloc, table, Gap::<true>(gap), start, scale, scans),
-        None => propose_by(alloc, table, Gap::<false>(0), start, scale, scans),
+        Some(gap) => propose_by(alloc, table, Gap::<true>(gap), start, scale, budget),
+        None => propose_by(alloc, table, Gap::<false>(0), start, scale, budget),
     }
 }

@@ -1,5 +1,5 @@
 -- Where a direct run starts, and what is told of a limit or a watch that has stopped it.
-use Rattle.std.proofs.Common.{Bool, true, ◌≡◌, ◌≢◌, inl, inr, ℕ, ◌==◌, List, length, [], ◌∷◌, refl, sym, ap, subst, ◌∙◌, arith}
+use Rattle.std.proofs.Common.{Bool, true, false, false≢true, ◌≡◌, ◌≢◌, inl, inr, ℕ, ◌==◌, List, length, [], ◌∷◌, refl, sym, ap, subst, ◌∙◌, arith}
 use Rattle.std.specs.Prelude.{ℤ, pos, Result, Ok, Err, IfOk}
 use Rattle.std.proofs.lemmas.Bool.Decides.{nat_tests}
 use Rattle.auc_graph.specs.Problem.{Problem}
@@ -20,6 +20,11 @@ use Rattle.auc_call.specs.Memory.{Memory}
 use Rattle.auc_call.specs.Running.{IsAnswerWritten, IsWritten}
 use Rattle.auc_call.specs.Telling.{solve_status, solve_found}
 use Rattle.auc_call.proofs.ToldLaws.{apart}
+
+-- a watch that never says no has stopped nothing
+pub never_stopped : (Stop Holds : Type 0) → UnlessStopped false Stop Holds → Holds
+never_stopped Stop Holds (inl told) = absurd (false≢true told.0)
+never_stopped Stop Holds (inr holds) = holds
 
 -- what a run under a watch says where a limit alone may leave a bracket
 unless : (before stopped : Bool) (answer : Answer) (Holds : Type 0) → IsLimitedUnless before stopped answer Holds → UnlessStopped stopped (IsStopTold answer) Holds

@@ -6,6 +6,7 @@
 
 mod given;
 mod naming;
+mod pausing;
 mod quick;
 mod table;
 mod table_call;

@@ -1,5 +1,6 @@
 -- Where a direct run starts, and what is told of a limit or a watch that has stopped it.
-use Rattle.std.proofs.Common.{Bool, true, false, false≢true, ◌≡◌, ◌≢◌, inl, inr, ℕ, ◌==◌, List, length, [], ◌∷◌, refl, sym, ap, subst, ◌∙◌, arith}
+use Rattle.std.proofs.Common.{Bool, true, false, ◌≡◌, ◌≢◌, inl, inr, ℕ, ◌==◌, List, length, [], ◌∷◌, refl, sym, ap, subst, ◌∙◌, arith}
+use Rattle.std.proofs.lemmas.Bool.{false≢true}
 use Rattle.std.specs.Prelude.{ℤ, pos, Result, Ok, Err, IfOk}
 use Rattle.std.proofs.lemmas.Bool.Decides.{nat_tests}
 use Rattle.auc_graph.specs.Problem.{Problem}
@@ -13,7 +14,7 @@ use Rattle.auc_call.specs.declared.solved.Solved.{Solved}
 use Rattle.auc_call.specs.declared.solved.Solved.TheVariants.{Optimal, Infeasible, Bracket}
 use Rattle.auc_call.specs.declared.solved.Failed.{Failed}
 use Rattle.auc_call.specs.declared.solved.Failed.TheVariants.{Sizes, Fault, Start, NoMemory}
-use Rattle.auc_call.specs.Codes.{limit_kind}
+use Rattle.auc_call.specs.Codes.{limit_kind, stop_kind}
 use Rattle.auc_call.specs.Drivers.{IsLimitedSolve}
 use Rattle.auc_call.specs.Limited.{IsLimitAt, IsLimitTold, IsLimitedIn, UnlessStopped}
 use Rattle.auc_call.specs.Memory.{Memory}
@@ -22,9 +23,9 @@ use Rattle.auc_call.specs.Telling.{solve_status, solve_found}
 use Rattle.auc_call.proofs.ToldLaws.{apart}
 
 -- a watch that never says no has stopped nothing
-pub never_stopped : (Stop Holds : Type 0) → UnlessStopped false Stop Holds → Holds
-never_stopped Stop Holds (inl told) = absurd (false≢true told.0)
-never_stopped Stop Holds (inr holds) = holds
+pub never_stopped : {Stop Holds : Type 0} → UnlessStopped false Stop Holds → Holds
+never_stopped (inl told) = absurd (false≢true told.0)
+never_stopped (inr holds) = holds
 
 -- what a run under a watch says where a limit alone may leave a bracket
 unless : (before stopped : Bool) (answer : Answer) (Holds : Type 0) → IsLimitedUnless before stopped answer Holds → UnlessStopped stopped (IsStopTold answer) Holds
@@ -66,16 +67,16 @@ limited_solve p start bids stopped (Answer.Broken guard) after (Bracket reason l
 
 -- and told so
 limit_told : (p : Problem) (start : List ℤ) (bids : ℕ) (stopped : Bool) (after : Memory) (reason : Reason) (lower cost : ℤ) → UnlessStopped stopped (reason ≡ Reason.Bids) (IsLimitAt p start bids after.choice after.prices reason lower cost)
-    → UnlessStopped stopped (limit_kind reason ≡ limit_kind Reason.Bids) (IsLimitTold p start bids after.choice after.prices (limit_kind reason) lower cost)
+    → UnlessStopped stopped (limit_kind reason ≡ stop_kind) (IsLimitTold p start bids after.choice after.prices (limit_kind reason) lower cost)
 limit_told p start bids stopped after reason lower cost (inl told) = inl (told.0, ap limit_kind told.1)
 limit_told p start bids stopped after reason lower cost (inr limit) = inr (record { reason = reason; kind_is = refl; limit = limit })
 
 pub told_limit : (p : Problem) (start : List ℤ) (bids : ℕ) (stopped : Bool) (after : Memory) (r : Result Solved Failed) (status : ℤ) (old new : Found) → IfOk r (IsLimitedSolve p start bids stopped after) → status ≡ solve_status r → new ≡ solve_found r old
-    → status ≡ pos 4 → UnlessStopped stopped (new.kind ≡ limit_kind Reason.Bids) (IsLimitTold p start bids after.choice after.prices new.kind new.lower new.cost)
+    → status ≡ pos 4 → UnlessStopped stopped (new.kind ≡ stop_kind) (IsLimitTold p start bids after.choice after.prices new.kind new.lower new.cost)
 told_limit p start bids stopped after (Ok (Optimal cost)) status old new h s f four = absurd (omega (arith, apart 0 4 (sym s ∙ four)))
 told_limit p start bids stopped after (Ok (Infeasible persons objects)) status old new h s f four = absurd (omega (arith, apart 3 4 (sym s ∙ four)))
 told_limit p start bids stopped after (Ok (Bracket reason lower cost)) status old new h s f four =
-    subst (λ (x : Found). UnlessStopped stopped (x.kind ≡ limit_kind Reason.Bids) (IsLimitTold p start bids after.choice after.prices x.kind x.lower x.cost)) (sym f) (limit_told p start bids stopped after reason lower cost h)
+    subst (λ (x : Found). UnlessStopped stopped (x.kind ≡ stop_kind) (IsLimitTold p start bids after.choice after.prices x.kind x.lower x.cost)) (sym f) (limit_told p start bids stopped after reason lower cost h)
 told_limit p start bids stopped after (Err Sizes) status old new h s f four = absurd (omega (arith, apart 2 4 (sym s ∙ four)))
 told_limit p start bids stopped after (Err (Fault fault)) status old new h s f four = absurd (omega (arith, apart 5 4 (sym s ∙ four)))
 told_limit p start bids stopped after (Err (Start fault)) status old new h s f four = absurd (omega (arith, apart 7 4 (sym s ∙ four)))

@@ -6,7 +6,7 @@ use Rattle.auc_claim.specs.declared.reason.Reason.{Reason}
 use Rattle.auc_answers.specs.declared.answer.Answer.{Answer}
 use Rattle.auc_direct.specs.Endings.{IsStopTold}
 use Rattle.auc_world.specs.Chain.{IsOfRun}
-use Rattle.auc_call.specs.Codes.{limit_kind}
+use Rattle.auc_call.specs.Codes.{stop_kind}
 use Rattle.auc_call.specs.declared.driver.Driver.{Driver}
 use Rattle.auc_call.specs.declared.driver.Driver.TheVariants.{Direct, Messages}
 use Rattle.auc_call.specs.declared.found.Found.{Found}
@@ -35,7 +35,7 @@ IsSolvedBy Messages p start bids stopped after solved = IsOfRunFrom p start bids
 -- by what is told
 abbrev pub IsToldBy : Driver → Problem → List ℤ → ℕ → Bool → Memory → ℤ → Found → Found → Type 0
 IsToldBy Direct p start bids stopped after status old new =
-    status ≡ pos 4 → UnlessStopped stopped (new.kind ≡ limit_kind Reason.Bids)
+    status ≡ pos 4 → UnlessStopped stopped (new.kind ≡ stop_kind)
     (IsLimitTold p start bids after.choice after.prices new.kind new.lower new.cost)
 IsToldBy Messages p start bids stopped after status old new =
     status ≢ pos 2 → status ≢ pos 5 → status ≢ pos 6 → status ≢ pos 7 → IsRunTold p start bids after status old new

@@ -1,8 +1,7 @@
 //! The calls. What each owes its caller is a record of one fact for each status (`specs/Told`).
 
 ghost use Rattle.std.specs.Prelude.{◌≡◌, ◌≢◌, pos};
-ghost use Rattle.auc_claim.specs.declared.reason.Reason.{Reason};
-ghost use Rattle.auc_call.specs.Codes.{limit_kind};
+ghost use Rattle.auc_call.specs.Codes.{stop_kind};
 ghost use Rattle.auc_call.specs.Given.{listed_problem};
 ghost use Rattle.auc_call.specs.Memory.{memory};
 ghost use Rattle.auc_call.specs.Start.{start_fault, start_fault_by_messages};
@@ -48,7 +47,7 @@ pub fn solve_call<W: Watch>(
         (memory choice.old prices.old hall_objects.old) (memory choice.new prices.new hall_objects.new) found.old
         found.new }
     ensures limit { result ≡ pos 4
-        → UnlessStopped (W.has_stopped run.new.watch) (found.new.kind ≡ limit_kind Reason.Bids)
+        → UnlessStopped (W.has_stopped run.new.watch) (found.new.kind ≡ stop_kind)
         (IsLimitTold (listed_problem given.now) run.old.start.now run.old.bids
         choice.new prices.new found.new.kind found.new.lower found.new.cost) }
     ensures kept { (run.new.start.now ≡ run.old.start.now) × (run.new.bids ≡ run.old.bids) }

@@ -9,7 +9,7 @@ use Rattle.auc_call.specs.declared.solved.Solved.TheVariants.{Optimal, Infeasibl
 use Rattle.auc_call.specs.declared.solved.Failed.{Failed}
 use Rattle.auc_call.specs.declared.solved.Failed.TheVariants.{Sizes, Fault, Start, NoMemory}
 use Rattle.auc_call.specs.Answers.{IsBracketTold}
-use Rattle.auc_call.specs.Codes.{IsListFault, IsStartFault, limit_kind}
+use Rattle.auc_call.specs.Codes.{IsListFault, IsStartFault, limit_kind, stop_kind}
 use Rattle.auc_call.specs.Limited.{IsLimitAt, IsLimitTold, UnlessStopped}
 use Rattle.auc_call.specs.Memory.{Memory}
 use Rattle.auc_dense.specs.Naming.{ByObjects, objects_at}
@@ -50,16 +50,16 @@ table_bracket p stride entries start bids stopped before after (Err NoMemory) ol
 
 -- of a bracket's places
 limit_at_places : (p : Problem) (start : List ℤ) (bids : ℕ) (stopped : Bool) (after : Memory) (reason : Reason) (lower cost : ℤ) (places : List ℕ) → after.choice ≡ objects_at p.arcs places → UnlessStopped stopped (reason ≡ Reason.Bids) (IsLimitAt p start bids places after.prices reason lower cost)
-    → UnlessStopped stopped (limit_kind reason ≡ limit_kind Reason.Bids) (ByObjects p.arcs after.choice (λ places. IsLimitTold p start bids places after.prices (limit_kind reason) lower cost))
+    → UnlessStopped stopped (limit_kind reason ≡ stop_kind) (ByObjects p.arcs after.choice (λ places. IsLimitTold p start bids places after.prices (limit_kind reason) lower cost))
 limit_at_places p start bids stopped after reason lower cost places objects_are (inl told) = inl (told.0, ap limit_kind told.1)
 limit_at_places p start bids stopped after reason lower cost places objects_are (inr limit) = inr (record { places = places; objects_are = objects_are; holds = record { reason = reason; kind_is = refl; limit = limit } })
 
 limit_by_objects : (p : Problem) (start : List ℤ) (bids : ℕ) (stopped : Bool) (after : Memory) (reason : Reason) (lower cost : ℤ)
     → ByObjects p.arcs after.choice (λ places. IsBracketAt p places after.prices reason lower cost × UnlessStopped stopped (reason ≡ Reason.Bids) (IsLimitAt p start bids places after.prices reason lower cost))
-    → UnlessStopped stopped (limit_kind reason ≡ limit_kind Reason.Bids) (ByObjects p.arcs after.choice (λ places. IsLimitTold p start bids places after.prices (limit_kind reason) lower cost))
+    → UnlessStopped stopped (limit_kind reason ≡ stop_kind) (ByObjects p.arcs after.choice (λ places. IsLimitTold p start bids places after.prices (limit_kind reason) lower cost))
 limit_by_objects p start bids stopped after reason lower cost h = limit_at_places p start bids stopped after reason lower cost h.places h.objects_are h.holds.1
 
-pub table_limit : (p : Problem) (stride entries : ℕ) (start : List ℤ) (bids : ℕ) (stopped : Bool) (before after : Memory) (r : Result Solved Failed) (old : Found) → SolvesTable p stride entries start bids stopped before after r → solve_status r ≡ pos 4 → UnlessStopped stopped ((solve_found r old).kind ≡ limit_kind Reason.Bids) (ByObjects p.arcs after.choice (λ places. IsLimitTold p start bids places after.prices (solve_found r old).kind (solve_found r old).lower (solve_found r old).cost))
+pub table_limit : (p : Problem) (stride entries : ℕ) (start : List ℤ) (bids : ℕ) (stopped : Bool) (before after : Memory) (r : Result Solved Failed) (old : Found) → SolvesTable p stride entries start bids stopped before after r → solve_status r ≡ pos 4 → UnlessStopped stopped ((solve_found r old).kind ≡ stop_kind) (ByObjects p.arcs after.choice (λ places. IsLimitTold p start bids places after.prices (solve_found r old).kind (solve_found r old).lower (solve_found r old).cost))
 table_limit p stride entries start bids stopped before after (Ok (Optimal cost)) old h e = absurd (omega (arith, apart 0 4 e))
 table_limit p stride entries start bids stopped before after (Ok (Infeasible persons objects)) old h e = absurd (omega (arith, apart 3 4 e))
 table_limit p stride entries start bids stopped before after (Ok (Bracket reason lower cost)) old h e = limit_by_objects p start bids stopped after reason lower cost h.2.0

@@ -6,7 +6,6 @@
 
 mod given;
 mod naming;
-mod pausing;
 mod quick;
 mod table;
 mod table_call;

@@ -9,8 +9,7 @@ ghost use Rattle.auc_dense.specs.Table.{IsTable, table_arcs};
 ghost use Rattle.auc_dense.specs.Tried.{IsPlainPrice, scaled};
 
 use crate::trying::{scale_of, try_out};
-use crate::pausing::Pausing;
-use auc_call::{Run, Watch, prices_fault};
+use auc_call::{Pausing, Run, Watch, prices_fault};
 use auc_claim::{Pick, cost_of};
 use auc_table::{Table, propose};
 use std::alloc::{AllocError, Global};

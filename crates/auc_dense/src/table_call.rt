@@ -1,8 +1,7 @@
 //! The call over a table.
 
 ghost use Rattle.std.specs.Prelude.{◌≡◌, length, pos};
-ghost use Rattle.auc_claim.specs.declared.reason.Reason.{Reason};
-ghost use Rattle.auc_call.specs.Codes.{limit_kind};
+ghost use Rattle.auc_call.specs.Codes.{stop_kind};
 ghost use Rattle.auc_call.specs.Memory.{memory};
 ghost use Rattle.auc_call.specs.Start.{start_fault};
 ghost use Rattle.auc_call.specs.Limited.{IsLimitTold, UnlessStopped};
@@ -48,7 +47,7 @@ pub fn solve_table_call<W: Watch>(
         (memory choice.old prices.old hall_objects.old) (memory choice.new prices.new hall_objects.new) found.old
         found.new }
     ensures limit { result ≡ pos 4
-        → UnlessStopped (W.has_stopped run.new.watch) (found.new.kind ≡ limit_kind Reason.Bids)
+        → UnlessStopped (W.has_stopped run.new.watch) (found.new.kind ≡ stop_kind)
         (ByObjects (tabled_problem given.now).arcs choice.new
         (λ places. IsLimitTold (tabled_problem given.now) run.old.start.now run.old.bids
         places prices.new found.new.kind found.new.lower found.new.cost)) }

@@ -1,18 +1,20 @@
 -- Phases of a run, one after another, and what they leave.
 use Rattle.std.specs.Prelude.{◌≤ℤ◌}
-use Rattle.std.proofs.Common.{Bool, ap, ℕ, ℤ, pos, refl, ◌≡◌, ◌∙◌, arith, List, inl, inr, replicate, sym}
+use Rattle.std.proofs.Common.{Bool, true, ap, ℕ, ℤ, pos, refl, ◌≡◌, ◌∙◌, arith, List, inl, inr, replicate, sym}
 use Rattle.std.proofs.lemmas.Int.{ints}
 use Rattle.auc_claim.specs.declared.reason.Reason.{Reason}
 use Rattle.auc_graph.specs.Assignment.{total}
 use Rattle.auc_rows.specs.declared.arc.ShortArc.{ShortArc}
 use Rattle.auc_rows.specs.Rows.{FlatTable}
 use Rattle.auc_market.specs.declared.ending.Ending.{Ending}
-use Rattle.auc_market.specs.Bids.{State}
+use Rattle.auc_market.specs.Bids.{State, state_of}
+use Rattle.auc_market.specs.declared.holdings.Holdings.{Holdings}
 use Rattle.auc_market.specs.Endings.{IsEnding, IsLeft, IsRunStopped, IsSold, IsStart, IsStopped, IsToldOr}
 use Rattle.auc_direct.specs.Endings.{IsOutcome}
 use Rattle.auc_market.specs.Market.{Stands}
 use Rattle.auc_market.specs.Phases.{AreAnew, ArePhases, IsOpened, IsPhase, IsReady, IsRun}
-use Rattle.auc_direct.specs.Phases.{HasRun}
+use Rattle.auc_direct.specs.Adopted.{AreFound}
+use Rattle.auc_direct.specs.Phases.{HasRun, IsAdopted}
 use Rattle.auc_market.specs.Phases.AreAnew.{begins}
 use Rattle.auc_market.specs.Position.{AreHandedOn, IsBegun, IsPlayed, IsTried, Law, Position, state_at}
 use Rattle.auc_direct.specs.Runs.{IsPlayedAt, IsRunOut, Plays}
@@ -128,6 +130,35 @@ outcome_of_one r bids before after ending a b prices holders owns table one law 
       stopped = rw same (told_from before after ending r bids (state_at a) (state_at a) b.prices (inl refl) (omega (arith, ints)) (watched_stopped before after r bids (state_at a) ending b.prices b.owns ended));
       run = run_ended r bids a.prices ending (state_at b) prices (sym same) (record { first = state_at a; begun_are = refl; phases = one_phase r bids (state_at a) (state_at b) (rw table at is.tried.phase) });
     }
+
+-- the outcome where the watch has said no within a search over a table: what persons hold then
+pub outcome_of_stop : (r : FlatTable) (bids : ℕ) (begun : List ℤ) (before after : Bool) (b : Position) (prices : List ℤ) (holders : List ℕ) (owns : List ShortArc) → b.table ≡ r → after ≡ true → Law b → IsRun r bids begun (state_at b) → AreHandedOn (Ending.Stopped Reason.Bids) b prices holders owns → IsOutcome r bids begun before after (Ending.Stopped Reason.Bids) prices holders owns
+outcome_of_stop r bids begun before after b prices holders owns table told law run h =
+    let same = handed_prices (Ending.Stopped Reason.Bids) b prices holders owns h in
+    let stands : Stands r b.eps b.prices b.holders b.owns = rw table at law.stands in
+    record {
+      left = handed_left (Ending.Stopped Reason.Bids) r b prices holders owns table (sold_left r b.eps (Ending.Stopped Reason.Bids) b.prices b.holders b.owns stands tt (λ e. absurd (not_sold Reason.Bids e))) h;
+      stopped = inl (told, refl);
+      run = run_ended r bids begun (Ending.Stopped Reason.Bids) (state_at b) prices (sym same) run;
+    }
+
+-- a run of no phase yet
+pub run_begun : (r : FlatTable) (bids : ℕ) (s : State) → IsRun r bids s.prices s
+run_begun r bids s = record { first = s; begun_are = refl; phases = record { kept = s; first = inl refl; anew = begins s refl } }
+
+-- the outcome of a table that was adopted
+pub outcome_found : (r : FlatTable) (bids : ℕ) (before after : Bool) (found : Holdings) (first : State) → after ≡ before → AreFound r found → IsOutcome r bids first.prices before after Ending.Sold found.prices.items found.holders.items found.owns.items
+outcome_found r bids before after found first going is =
+    let adopted : IsAdopted r (state_of found) = record { full = is.full; stands = is.stands; have = is.have } in
+    record {
+      left = (is.stands, is.have);
+      stopped = inr (going, (first, refl, tt));
+      run = (state_of found, refl, inr adopted);
+    }
+
+-- the same outcome from a state of the watch before, whose flag is the same
+pub outcome_before : (r : FlatTable) (bids : ℕ) (begun : List ℤ) (before between after : Bool) (ending : Ending) (prices : List ℤ) (holders : List ℕ) (owns : List ShortArc) → between ≡ before → IsOutcome r bids begun between after ending prices holders owns → IsOutcome r bids begun before after ending prices holders owns
+outcome_before r bids begun before between after ending prices holders owns same is = rw same at is
 
 -- the outcome of a run whose first phase was given up
 pub outcome_of : (r : FlatTable) (bids : ℕ) (before between after : Bool) (ending : Ending) (a b c : Position) (prices : List ℤ) (holders : List ℕ) (owns : List ShortArc) → a.table ≡ r → between ≡ before → IsTried bids a b → IsRunOut bids between after ending b c → AreHandedOn ending c prices holders owns → IsOutcome r bids a.prices before after ending prices holders owns

@@ -18,14 +18,16 @@ mod adopt;
 mod eps;
 mod gathering;
 mod onward;
+mod pausing;
 mod reduce;
 mod rules;
 mod run;
 mod solving;
 mod tuning;
 
-pub use auc_market::{Progress, Watch};
+pub use auc_market::{Best, Progress, Watch};
 pub use onward::Onward;
+pub use pausing::Pausing;
 pub use solving::{
     DirectLimits, may_start, solve_direct, solve_direct_from, solve_direct_watched,
     solve_direct_watched_from,

@@ -21,8 +21,7 @@
 //!    to have price 0.
 
 use crate::tuning::{
-    CALM_BIDS_PER_PERSON, FREE_DIVISOR, START_BIDS_PER_PERSON, TABLE_SCANS_PER_ENTRY,
-    TIES_BIDS_PER_PERSON,
+    CALM_BIDS_PER_PERSON, FREE_DIVISOR, START_BIDS_PER_PERSON, TIES_BIDS_PER_PERSON,
 };
 use auc_market::{Attempt, LAST_EPS};
 use auc_rows::FlatRows;
@@ -89,13 +88,4 @@ pub(crate) fn attempt_with_ties(rows: &FlatRows, are_there: bool) -> Attempt {
 /// The last phase from start prices, with as many objects as persons.
 pub(crate) fn attempt_from_start(rows: &FlatRows, is_start: bool) -> Attempt {
     attempt_of(rows, if is_start { START_BIDS_PER_PERSON } else { 0 })
-}
-
-/// The number of entries that the search of a full table may scan. With more objects than persons any number: one phase
-/// at the last eps would take far longer.
-pub(crate) fn scans_of_table(rows: &FlatRows) -> u64 {
-    if rows.persons() < rows.objects() {
-        return u64::MAX;
-    }
-    TABLE_SCANS_PER_ENTRY.saturating_mul(rows.arc_count() as u64)
 }

@@ -8,17 +8,15 @@ ghost use Rattle.auc_market.specs.declared.ending.Ending.{Ending};
 ghost use Rattle.auc_rows.specs.Rows.{EachHasArc};
 ghost use Rattle.auc_market.specs.Eps.{IsEpsOf};
 ghost use Rattle.auc_market.specs.Halts.{IsHalt};
-ghost use Rattle.auc_market.specs.Position.{Begins};
+ghost use Rattle.auc_market.specs.Position.{AreHandedOn, Begins, Law};
 ghost use Rattle.auc_direct.specs.Adopted.{IsFullTable};
 ghost use Rattle.auc_direct.specs.Endings.{IsCeilingWide, IsOutcome};
 ghost use Rattle.auc_direct.specs.Runs.{IsPlayedAt, IsRunOut, Plays};
 
-use crate::adopt::adopted;
+use crate::adopt::{Searched, search_table};
 use crate::eps::{coarse_eps, fine_eps, next_eps};
 use crate::reduce::start_prices;
-use crate::rules::{
-    attempt_ahead, attempt_from_start, attempt_of_first, attempt_with_ties, scans_of_table,
-};
+use crate::rules::{attempt_ahead, attempt_from_start, attempt_of_first, attempt_with_ties};
 use crate::tuning::{PACING, SAMPLED_ROWS};
 use auc_claim::Reason;
 use auc_market::{Attempt, Ending, Halt, Holdings, LAST_EPS, Market, Pace, Watch};
@@ -30,6 +28,34 @@ use std::alloc::Global;
 pub(crate) struct Outcome {
     pub(crate) ending: Ending,
     pub(crate) holdings: Holdings,
+}
+
+impl Outcome {
+    /// After a search over a full table.
+    fn sold(holdings: Holdings) -> Outcome
+        ensures ending { result.ending ≡ Ending.Sold }
+        ensures holdings { result.holdings ≡ holdings }
+    {
+        Outcome {
+            ending: Ending::Sold,
+            holdings,
+        }
+    }
+
+    /// After a no within such a search.
+    fn stopped(market: Market<'_>) -> Outcome
+        ensures ending { result.ending ≡ Ending.Stopped Reason.Bids }
+        ensures law { Law market.entry }
+        ensures handed { AreHandedOn (Ending.Stopped Reason.Bids) market.entry result.holdings.prices.items
+            result.holdings.holders.items result.holdings.owns.items }
+    {
+        market.law();
+        let ending = Ending::Stopped(Reason::Bids);
+        Outcome {
+            ending,
+            holdings: market.into_holdings(ending),
+        }
+    }
 }
 
 /// A phase in which nobody keeps an object. None where the attempt is given up, or where it has no bids.
@@ -137,7 +163,7 @@ fn run_wide<W: Watch>(
     rows: &FlatRows,
     bids: u64,
     market: Market<'_>,
-    is_start: bool,
+    start: &[i64],
     watch: &mut W,
 ) -> Result<Outcome, Halt>
     requires begins { Begins rows.now market }
@@ -147,13 +173,10 @@ fn run_wide<W: Watch>(
     ensures asked { IfOk result (λ o. (W.was_asked watch.new ≡ true) ⊎ IsFullTable rows.now) }
     ensures halt { IfErr result (λ h. IsHalt rows.now h × (W.has_stopped watch.new ≡ W.has_stopped watch.old)) }
 {
-    if !is_start {
-        if let Some(holdings) = adopted(alloc, rows, &[], scans_of_table(rows))? {
-            return Ok(Outcome {
-                ending: Ending::Sold,
-                holdings,
-            });
-        }
+    match search_table(alloc, rows, start, watch)? {
+        Searched::Adopted(holdings) => return Ok(Outcome::sold(holdings)),
+        Searched::Ended => return Ok(Outcome::stopped(market)),
+        Searched::Nothing => {}
     }
     let mut market = market;
     let mut pace = Pace::new(rows, PACING);
@@ -165,8 +188,8 @@ fn run_wide<W: Watch>(
     })
 }
 
-/// A run from the holdings of a market at the last eps. A full table is searched as a table first. Then, from a start,
-/// the last phase is tried, and persons keep what they hold in it.
+/// A run from the holdings of a market at the last eps. From a start the last phase is tried first, and persons keep
+/// what they hold in it. A full table is searched as a table before all other phases.
 pub(crate) fn run<W: Watch>(
     alloc: Global,
     rows: &FlatRows,
@@ -183,13 +206,7 @@ pub(crate) fn run<W: Watch>(
     ensures halt { IfErr result (λ h. IsHalt rows.now h × (W.has_stopped watch.new ≡ W.has_stopped watch.old)) }
 {
     if rows.persons() != rows.objects() {
-        return run_wide(alloc, rows, bids, market, !start.is_empty(), watch);
-    }
-    if let Some(holdings) = adopted(alloc, rows, start, scans_of_table(rows))? {
-        return Ok(Outcome {
-            ending: Ending::Sold,
-            holdings,
-        });
+        return run_wide(alloc, rows, bids, market, start, watch);
     }
     let mut market = market;
     let mut pace = Pace::new(rows, PACING);
@@ -200,6 +217,11 @@ pub(crate) fn run<W: Watch>(
             ending,
             holdings: market.into_holdings(ending),
         });
+    }
+    match search_table(alloc, rows, start, watch)? {
+        Searched::Adopted(holdings) => return Ok(Outcome::sold(holdings)),
+        Searched::Ended => return Ok(Outcome::stopped(market)),
+        Searched::Nothing => {}
     }
     let ending = play_square(&mut market, rows, bids, &mut pace, watch)?;
     Ok(Outcome {

@@ -227,11 +227,9 @@ pub fn solve_direct(
 /// A limit on bids counts from the prices that are left then: clause `limit`. With as many objects as persons these are
 /// the start's.
 ///
-/// With as many objects as persons a full table is searched as a table before that, from the start where this gives a
-/// greater lower bound than prices of 0. So an old certificate's prices may come back as others.
-///
-/// With as many objects as persons, four bids a person may not give each person an object. Then the run goes on from
-/// there in phases, as one without a start does.
+/// With as many objects as persons, four bids a person may not give each person an object. Then a full table is searched
+/// as a table, from the start where this gives a greater lower bound than prices of 0. Else the run goes on from the
+/// prices that are left in phases, as one without a start does.
 ///
 /// Takes two passes over the arcs for what persons keep, and with more objects than persons up to eight more; beside
 /// that the time and memory of [`solve_direct`].
@@ -254,7 +252,7 @@ pub fn solve_direct_from(
 }
 
 /// Solves a problem as [`solve_direct`] does, and asks a watch whether the run goes on: before each phase, and between
-/// bids, after about four million arcs scanned.
+/// bids, or within the search of a full table, after about four million arcs scanned.
 ///
 /// Where the watch says no, the answer is a bracket with the reason `Bids`, or that there is no assignment. Where it
 /// has said no only before the call, or not at all, a bracket is answered only after a limit: clause `limit`. The
@@ -266,7 +264,6 @@ pub fn solve_direct_from(
 ///
 /// - before the rows are built;
 /// - within a search for a path;
-/// - while a full table is searched;
 /// - after a no, while a bracket is made and checked.
 ///
 /// # Errors

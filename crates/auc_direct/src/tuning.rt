@@ -27,6 +27,3 @@ pub(crate) const PACING: Pacing = Pacing {
 
 /// The number of bids a person that a run from start prices may make before it begins as a run without a start.
 pub(crate) const START_BIDS_PER_PERSON: u64 = 4;
-
-/// The number of scans of each entry that the search of a full table may make, with as many objects as persons.
-pub(crate) const TABLE_SCANS_PER_ENTRY: u64 = 8;

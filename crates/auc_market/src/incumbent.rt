@@ -5,21 +5,41 @@ ghost use Rattle.auc_market.specs.Incumbent.{AreSetAside};
 ghost use Rattle.auc_market.specs.Market.{HaveObjects};
 
 use crate::holdings::Holdings;
+use crate::watch::Best;
 use auc_rows::ShortArc;
 use std::mem;
 
 /// The holder of each object, indexed by object; the own arc of each person, indexed by person; and whether each person
-/// had an object.
+/// had an object. What it shows of the least cost is for a watch.
 #[derive(Drop)]
 pub(crate) struct Incumbent {
     pub(crate) holders: Vec<u32>,
     pub(crate) owns: Vec<ShortArc>,
     pub(crate) is_whole: bool,
+    pub(crate) best: Option<Best>,
+}
+
+/// What an assignment by these arcs shows, with as many objects as persons. It costs at most persons * eps more than the
+/// least one, by epsilon-complementary slackness.
+fn best_at(owns: &[ShortArc], eps: i64) -> Best {
+    let mut cost: i64 = 0;
+    for own in owns {
+        cost = cost.saturating_add(i64::from(own.cost));
+    }
+    // Persons * eps, in costs that aren't scaled by persons + 1.
+    let scale = (owns.len() as i64).saturating_add(1);
+    let part = eps.saturating_sub(1).checked_div(scale).unwrap_or(0);
+    let gap = eps.saturating_sub(1).saturating_sub(part);
+    Best {
+        cost,
+        lower: cost.saturating_sub(gap),
+    }
 }
 
 impl Holdings {
-    /// Where each person has an object, these holdings become the incumbent. The holdings are to be opened afterwards.
-    pub(crate) fn set_aside(&mut self, incumbent: &mut Incumbent)
+    /// Where each person has an object, within this eps of the best, these holdings become the incumbent. The holdings
+    /// are to be opened afterwards.
+    pub(crate) fn set_aside(&mut self, eps: i64, incumbent: &mut Incumbent)
         ensures prices { self.new.prices ≡ self.old.prices }
         ensures whole { HaveObjects (length self.old.owns.items) self.old.owns.items → (incumbent.new.is_whole ≡ true)
             × (incumbent.new.owns.items ≡ self.old.owns.items) }
@@ -28,6 +48,7 @@ impl Holdings {
         if !self.all_have() {
             return;
         }
+        incumbent.best = Some(best_at(self.owns.as_slice(), eps));
         mem::swap(&mut self.holders, &mut incumbent.holders);
         mem::swap(&mut self.owns, &mut incumbent.owns);
         incumbent.is_whole = true;

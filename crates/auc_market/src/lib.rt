@@ -47,4 +47,4 @@ pub use pace::{Pace, Pacing};
 pub use phase::Attempt;
 pub use sample::Sample;
 pub use starts::tried;
-pub use watch::{Progress, Watch};
+pub use watch::{Best, Progress, Watch};

@@ -36,6 +36,7 @@ use crate::incumbent::Incumbent;
 use crate::lists::Lists;
 use crate::sample::Sample;
 use crate::search::Search;
+use crate::watch::Best;
 use auc_letters::{LAST_EPS, NOBODY};
 use auc_rows::FlatRows;
 use std::alloc::{AllocError, Global};
@@ -117,6 +118,7 @@ impl<'a> Market<'a> {
             holders,
             owns,
             is_whole: false,
+            best: None,
         };
         Ok(Market {
             alloc,
@@ -155,6 +157,11 @@ impl<'a> Market<'a> {
             }
         }
         held
+    }
+
+    /// What the last full assignment shows of the least cost.
+    pub(crate) fn best(&self) -> Option<Best> {
+        self.incumbent.best
     }
 
     /// The spread and the ties of the rows of at least `least` persons, or of all, at the present prices.
@@ -217,8 +224,9 @@ impl<'a> Market<'a> {
         requires square { self.old.table.objects ≡ length self.old.table.rows }
         ensures { IsBegun eps self.old self.new }
     {
+        let earlier = self.eps;
         self.eps = eps;
-        self.holdings.set_aside(&mut self.incumbent);
+        self.holdings.set_aside(earlier, &mut self.incumbent);
         self.holdings.open();
     }
 

@@ -95,6 +95,7 @@ impl<'a> Market<'a> {
                 eps,
                 held: self.held(),
                 bids: bids - left,
+                best: self.best(),
             };
             if !may_go_on(watch, progress) {
                 return Ok(Some(Ending::Stopped(Reason::Bids)));

@@ -2,6 +2,15 @@
 
 ghost use Rattle.std.specs.Prelude.{Bool, true, false, ◌≡◌};
 
+/// What a run has found so far, in costs of the problem. Nothing is proved of it.
+#[derive(Clone, Copy, Debug, PartialEq, Eq)]
+pub struct Best {
+    /// The cost of the last full assignment.
+    pub cost: i64,
+    /// No assignment costs less.
+    pub lower: i64,
+}
+
 /// The progress of a run.
 #[derive(Clone, Copy, Debug, PartialEq, Eq)]
 pub struct Progress {
@@ -11,6 +20,8 @@ pub struct Progress {
     pub held: u32,
     /// The number of bids that the phase has made.
     pub bids: u64,
+    /// What phases before it have found, if there was one that gave each person an object.
+    pub best: Option<Best>,
 }
 
 /// Asked between bids whether a run goes on: before each phase, and after as many bids as take some milliseconds.

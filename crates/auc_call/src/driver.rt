@@ -3,11 +3,10 @@
 ghost use Rattle.std.specs.Prelude.{◌≡◌, ◌≢◌, [], IfOk};
 ghost use Rattle.auc_claim.specs.Start.{AreStart};
 ghost use Rattle.auc_answers.specs.Answers.{IsAnswer};
-ghost use Rattle.auc_direct.specs.Endings.{IsStopTold};
 ghost use Rattle.auc_direct.specs.Starts.{AreStartPrices};
 ghost use Rattle.auc_world.specs.Chain.{IsOfRun};
 ghost use Rattle.auc_call.specs.Drivers.{IsAnswerBy};
-ghost use Rattle.auc_call.specs.Limited.{IsLimitedIn, UnlessStopped};
+ghost use Rattle.auc_call.specs.declared.driver.Driver.{Driver};
 ghost use Rattle.auc_call.specs.Running.{limits_of, start_in};
 ghost use Rattle.auc_call.specs.Start.{CanStart};
 
@@ -34,9 +33,9 @@ fn answer_directly<W: Watch>(
 ) -> Result<Answer, AllocError>
     requires { run.old.start.now ≢ [] → AreStartPrices problem.now run.old.start.now }
     ensures is { IfOk result (IsAnswer problem.now) }
-    ensures limit { IfOk result
-        (λ a. UnlessStopped (W.has_stopped run.new.watch) (IsStopTold a)
-        (IsLimitedIn problem.now run.old.start.now run.old.bids a)) }
+    ensures run { IfOk result
+        (IsAnswerBy Driver.Direct problem.now run.old.start.now run.old.bids (W.has_stopped run.new.watch)
+        (W.was_asked run.new.watch)) }
     ensures kept { (run.new.start.now ≡ run.old.start.now) × (run.new.bids ≡ run.old.bids) }
 {
     let limits = DirectLimits { bids: run.bids };
@@ -77,7 +76,8 @@ pub(crate) fn answer_of<W: Watch>(
     requires { run.old.start.now ≢ [] → CanStart driver problem.now run.old.start.now }
     ensures is { IfOk result (IsAnswer problem.now) }
     ensures run { IfOk result
-        (IsAnswerBy driver problem.now run.old.start.now run.old.bids (W.has_stopped run.new.watch)) }
+        (IsAnswerBy driver problem.now run.old.start.now run.old.bids (W.has_stopped run.new.watch)
+        (W.was_asked run.new.watch)) }
     ensures kept { (run.new.start.now ≡ run.old.start.now) × (run.new.bids ≡ run.old.bids) }
 {
     match driver {

@@ -24,7 +24,7 @@ fn of_outlets(rt: &HostRuntime, watch: Patience) -> (spare::Behind, Patience) {
     (told, run.watch)
 }
 
-/// Whether the bracket of a stop is told, around this cost.
+/// Whether the answer is the bracket of a stop, around this cost.
 fn is_stop(status: i32, found: Found, least: i64) -> bool {
     status == BRACKET && found.kind == 1 && found.lower <= least && least <= found.cost
 }
@@ -43,7 +43,7 @@ fn list_at_once(rt: HostRuntime) {
     }
 }
 
-/// After some questions: either it has said no, or the least cost is told.
+/// After some questions: either it has said no, or the least cost is found.
 #[test]
 fn list_later(rt: HostRuntime) {
     for patience in 0..5 {
@@ -92,7 +92,7 @@ fn table_never(rt: HostRuntime) {
 /// How many rows the table of products has.
 const PRODUCTS: u32 = 320;
 
-/// The table of products under this watch, whose search scans some million entries. What is told, and the watch.
+/// Solves the table of products, whose search scans some million entries. The status, what was found, and the watch.
 fn of_products(rt: &HostRuntime, watch: Patience) -> Option<(i32, Found, Patience)> {
     let many = PRODUCTS as usize;
     let mut costs = vec![in rt.alloc(); 0; many * many].ok()?;

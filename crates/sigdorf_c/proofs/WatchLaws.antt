@@ -1,6 +1,8 @@
 -- What a C program is told of its watch.
-use Rattle.std.proofs.Common.{Bool, true, false, ◌≡◌, ◌⊎◌, inl, inr, ℕ, ap, ◌∙◌}
-use Rattle.std.specs.Prelude.{if◌then◌else◌}
+use Rattle.std.proofs.Common.{Bool, true, false, ◌≡◌, ◌⊎◌, inl, inr, ℕ, ◌==◌, sym, ap, subst, ◌∙◌}
+use Rattle.std.specs.Prelude.{if◌then◌else◌, not}
+use Rattle.auc_graph.specs.Problem.{Problem}
+use Rattle.auc_call.specs.Drivers.{WasAsked}
 use Rattle.auc_call.specs.Limited.{UnlessStopped}
 
 abbrev flag : Bool → ℕ
@@ -15,3 +17,7 @@ stop_told has_stopped stopped is (inr holds) = inr holds
 pub is_flag : (has_stopped : Bool) (stopped : ℕ) → stopped ≡ flag has_stopped → (stopped ≡ 0) ⊎ (stopped ≡ 1)
 is_flag true stopped is = inr is
 is_flag false stopped is = inl is
+
+-- the number of questions is handed out
+pub asked_told : (p : Problem) (asked told : ℕ) → told ≡ asked → WasAsked (not (asked == 0)) p → WasAsked (not (told == 0)) p
+asked_told p asked told is h = subst (λ (n : ℕ). WasAsked (not (n == 0)) p) (sym is) h

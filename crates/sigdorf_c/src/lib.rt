@@ -5,9 +5,10 @@
 //! What the caller owes is at the top of `c/sigdorf.h`. The watch of a call is in `watch.rt`.
 #![tactic(auto)]
 
-ghost use Rattle.std.specs.Prelude.{◌≡◌, ◌≢◌, ◌⊎◌, length, pos};
+ghost use Rattle.std.specs.Prelude.{◌≡◌, ◌≢◌, ◌==◌, ◌⊎◌, length, not, pos};
 ghost use Rattle.auc_graph.specs.InMemory.{problem_from};
 ghost use Rattle.auc_call.specs.Codes.{stop_kind};
+ghost use Rattle.auc_call.specs.Drivers.{WasAsked};
 ghost use Rattle.auc_call.specs.Memory.{memory};
 ghost use Rattle.auc_call.specs.Start.{start_fault, start_fault_by_messages};
 ghost use Rattle.auc_call.specs.Limited.{IsLimitTold};
@@ -72,7 +73,7 @@ pub extern "C" fn sigdorf_solve(
 
 /// Solves as [`sigdorf_solve`] does, under a watch, which is asked as [`auc_call::solve_call`] says. After its no,
 /// `watch.stopped` is 1, and the status is that of a bracket with the kind of a limit on bids, or that there is no
-/// assignment: clause `limit`.
+/// assignment: clause `limit`. Clause `asked` says when `watch.asked` may be 0.
 #[unsafe(no_mangle)]
 pub extern "C" fn sigdorf_solve_watched(
     alloc: Global,
@@ -95,10 +96,11 @@ pub extern "C" fn sigdorf_solve_watched(
         → ((watch.new.stopped ≡ 1) × (found.new.kind ≡ stop_kind))
         ⊎ IsLimitTold (problem_from persons objects arcs.now) start.now bids
         choice.new prices.new found.new.kind found.new.lower found.new.cost }
+    ensures asked { (result ≡ pos 0) ⊎ (result ≡ pos 4)
+        → WasAsked (not (watch.new.asked == 0)) (problem_from persons objects arcs.now) }
     ensures stopped { (watch.new.stopped ≡ 0) ⊎ (watch.new.stopped ≡ 1) }
-    ensures until { watch.new.until ≡ watch.old.until }
-    ensures stop { watch.new.stop ≡ watch.old.stop }
-    ensures progress { watch.new.progress ≡ watch.old.progress }
+    ensures kept { (watch.new.until ≡ watch.old.until) × (watch.new.stop ≡ watch.old.stop)
+        × (watch.new.progress ≡ watch.old.progress) }
 {
     let given = GivenArcs {
         persons,
@@ -111,7 +113,7 @@ pub extern "C" fn sigdorf_solve_watched(
         watch: watch.begin(),
     };
     let status = solve_call(alloc, &given, &mut run, choice, prices, hall_objects, found);
-    watch.tell(&run.watch);
+    watch.end(&run.watch);
     status
 }
 
@@ -191,9 +193,8 @@ pub extern "C" fn sigdorf_solve_dense_watched(
         (λ places. IsLimitTold (table_problem persons objects costs.now stride none) start.now bids
         places prices.new found.new.kind found.new.lower found.new.cost) }
     ensures stopped { (watch.new.stopped ≡ 0) ⊎ (watch.new.stopped ≡ 1) }
-    ensures until { watch.new.until ≡ watch.old.until }
-    ensures stop { watch.new.stop ≡ watch.old.stop }
-    ensures progress { watch.new.progress ≡ watch.old.progress }
+    ensures kept { (watch.new.until ≡ watch.old.until) × (watch.new.stop ≡ watch.old.stop)
+        × (watch.new.progress ≡ watch.old.progress) }
 {
     let given = GivenTable {
         persons,
@@ -208,7 +209,7 @@ pub extern "C" fn sigdorf_solve_dense_watched(
         watch: watch.begin(),
     };
     let status = solve_table_call(alloc, &given, &mut run, choice, prices, hall_objects, found);
-    watch.tell(&run.watch);
+    watch.end(&run.watch);
     status
 }
 

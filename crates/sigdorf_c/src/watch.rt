@@ -1,29 +1,31 @@
 //! What a C program watches a call by: a time, a descriptor that ends the search, and one to which progress is written.
 
-ghost use Rattle.std.specs.Prelude.{◌≡◌, ◌==◌, ◌||◌, false, not, if◌then◌else◌};
+ghost use Rattle.std.specs.Prelude.{◌≡◌, false, if◌then◌else◌};
+ghost use Rattle.sigdorf_c.specs.Watch.{has_stopped, was_asked};
 
 use auc_call::{Progress, Watch};
 
-/// What a C program asks of a watch, and what it is told after the call: `sigdorf_watch`.
+/// What a C program sets for a call, and what the call writes there: `sigdorf_watch`.
 #[repr(C)]
 #[derive(Clone, Copy, Debug, PartialEq, Eq)]
 pub struct Watching {
     /// The nanoseconds of the monotonic clock at which the search ends; 0: never.
     pub until: i64,
-    /// A descriptor that ends the search as soon as there is something to read; -1: none.
+    /// A descriptor that ends the search as soon as there is something to read, or an error; -1: none.
     pub stop: i32,
-    /// A descriptor to which the progress is written at each question; -1: none.
+    /// A descriptor to which the progress is written at each question, by one write; -1: none. The search waits for the
+    /// write, and one to a pipe that nobody reads raises SIGPIPE.
     pub progress: i32,
     /// 1 where the watch has said no in the call, else 0.
     pub stopped: u32,
-    /// How often it was asked in the call; 2^32 - 1 stands for more.
+    /// How often it was asked in the call, but no more than 2^32 - 1.
     pub asked: u32,
 }
 
 impl Watching {
     /// Begins to watch over a call.
     pub(crate) fn begin(&self) -> Lookout
-        ensures { result.has_stopped ≡ false }
+        ensures { has_stopped result ≡ false }
     {
         Lookout {
             until: self.until,
@@ -34,20 +36,20 @@ impl Watching {
         }
     }
 
-    /// Tells what a call's watch has come to.
-    pub(crate) fn tell(&mut self, lookout: &Lookout)
-        ensures stopped { self.new.stopped ≡ (if lookout.now.has_stopped then 1 else 0) }
-        ensures until { self.new.until ≡ self.old.until }
-        ensures stop { self.new.stop ≡ self.old.stop }
-        ensures progress { self.new.progress ≡ self.old.progress }
+    /// Writes what came of the watch over a call.
+    pub(crate) fn end(&mut self, lookout: &Lookout)
+        ensures stopped { self.new.stopped ≡ (if has_stopped lookout.now then 1 else 0) }
+        ensures asked { self.new.asked ≡ lookout.now.asked }
+        ensures kept { (self.new.until ≡ self.old.until) × (self.new.stop ≡ self.old.stop)
+            × (self.new.progress ≡ self.old.progress) }
     {
-        self.stopped = if lookout.has_stopped { 1 } else { 0 };
+        self.stopped = if lookout.has_said_no() { 1 } else { 0 };
         self.asked = lookout.asked;
     }
 }
 
 /// The watch over one call.
-#[derive(Clone, Copy, Debug, PartialEq, Eq)]
+#[derive(Drop)]
 pub(crate) struct Lookout {
     until: i64,
     stop: i32,
@@ -114,12 +116,12 @@ fn bytes_of(progress: Progress) -> [u8; 40] {
 }
 
 impl Watch for Lookout {
-    ghost has_stopped = { λ lookout. lookout.has_stopped };
+    ghost has_stopped = { has_stopped };
 
-    ghost was_asked = { λ lookout. lookout.has_stopped || not (lookout.asked == 0) };
+    ghost was_asked = { was_asked };
 
     fn has_said_no(&self) -> bool {
-        self.has_stopped
+        self.asked != 0 && self.has_stopped
     }
 
     fn goes_on(&mut self, progress: Progress) -> bool {

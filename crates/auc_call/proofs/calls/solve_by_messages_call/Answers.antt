@@ -27,4 +27,4 @@ returns-clause-told g c =
 pub returns-clause-run : goal.returns-clause-run
 returns-clause-run g c =
     let fits : FitsSigned w32 c.tell_solved.result = search rules in
-    simp to_z-of_z (told_by Messages (listed_problem c.args.given.now) c.args.run.now.start.now c.args.run.now.bids (g.W.Watch.has_stopped c.solve_into-solved.new.run.watch) (memory c.solve_into-solved.new.choice c.solve_into-solved.new.prices c.solve_into-solved.new.set) c.solve_into-solved.result c.tell_solved.result c.args.found.now c.tell_solved.new.found c.solve_into-solved.ensures.run c.tell_solved.ensures.status c.tell_solved.ensures.found)
+    simp to_z-of_z (told_by Messages (listed_problem c.args.given.now) c.args.run.now.start.now c.args.run.now.bids (g.W.Watch.has_stopped c.solve_into-solved.new.run.watch) (g.W.Watch.was_asked c.solve_into-solved.new.run.watch) (memory c.solve_into-solved.new.choice c.solve_into-solved.new.prices c.solve_into-solved.new.set) c.solve_into-solved.result c.tell_solved.result c.args.found.now c.tell_solved.new.found c.solve_into-solved.ensures.run c.tell_solved.ensures.status c.tell_solved.ensures.found)

@@ -37,4 +37,4 @@ returns-clause-solves g c =
 pub returns-clause-run : goal.returns-clause-run
 returns-clause-run g c =
     let e = made_of c.args.given.now.persons c.args.given.now.objects c.in_ok-problem.problem c.in_ok-arcs.arcs.items c.args.given.now.arcs.now c.in_ok-problem.ensures.exact c.in_ok-arcs.ensures.items in
-    subst (λ (p : Problem). IfOk c.solve_problem.result (IsSolvedBy c.args.driver p c.args.run.now.start.now c.args.run.now.bids (g.W.Watch.has_stopped c.solve_problem.new.run.watch) (memory c.solve_problem.new.choice c.solve_problem.new.prices c.solve_problem.new.set))) e c.solve_problem.ensures.run
+    subst (λ (p : Problem). IfOk c.solve_problem.result (IsSolvedBy c.args.driver p c.args.run.now.start.now c.args.run.now.bids (g.W.Watch.has_stopped c.solve_problem.new.run.watch) (g.W.Watch.was_asked c.solve_problem.new.run.watch) (memory c.solve_problem.new.choice c.solve_problem.new.prices c.solve_problem.new.set))) e c.solve_problem.ensures.run

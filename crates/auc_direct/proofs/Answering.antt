@@ -266,9 +266,9 @@ none_asked false p (Answer.Broken guard) h = absurd h
 
 first_claim : (p : Problem) (bids : ℕ) (begun : List ℤ) (cert : CertParts) → AreFirst p begun → IsClaimOfRun p bids begun cert → IsClaimOfFirst p bids cert
 first_claim p bids begun (CertParts.Optimal cost picks prices) first (inl run) = inl (begun, first, run)
-first_claim p bids begun (CertParts.Optimal cost choice prices) first (inr is) = inr is
+first_claim p bids begun (CertParts.Optimal cost picks prices) first (inr is) = inr is
 first_claim p bids begun (CertParts.Infeasible persons objects) first run = tt
-first_claim p bids begun (CertParts.Bracket reason lower cost choice prices) first run = (begun, first, run)
+first_claim p bids begun (CertParts.Bracket reason lower cost picks prices) first run = (begun, first, run)
 
 -- the outcome of a run that began with such prices
 pub of_first : (p : Problem) (bids : ℕ) (begun : List ℤ) (answer : Answer) → AreFirst p begun → IsOfPhases p bids begun answer → IsOfFirstPhases p bids answer

@@ -9,7 +9,7 @@ pub trait Pause {
 /// How much a search may scan, and who may end it before.
 #[derive(Drop)]
 pub(crate) struct Budget<'a, P> {
-    scans: u64,
+    pub(crate) scans: u64,
     pause: &'a mut P,
     has_ended: bool,
 }
@@ -22,11 +22,6 @@ impl<'a, P: Pause> Budget<'a, P> {
             pause,
             has_ended: false,
         }
-    }
-
-    /// The number of entries that may be scanned.
-    pub(crate) fn scans(&self) -> u64 {
-        self.scans
     }
 
     /// Whether a search ends that has scanned so many.

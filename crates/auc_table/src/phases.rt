@@ -12,27 +12,24 @@ pub const EPS_DIVISOR: i64 = 8;
 /// with gaps prices may have far to rise.
 const PASSES: u32 = 64;
 
-/// In a large table paths before phases may take one part in this many of what they take at worst, a pass for each
-/// person. Costs by chance and distances take less.
-const PARTS_OF_WORST: u32 = 32;
-
 /// The number of entries that paths may scan before phases are played.
 pub(crate) fn scans_of_paths(table: &Table) -> u64 {
     let entries = u64::from(table.persons).saturating_mul(u64::from(table.objects));
-    entries.saturating_mul(u64::from(PASSES.max(table.persons / PARTS_OF_WORST)))
+    entries.saturating_mul(u64::from(PASSES))
 }
 
-/// The mean spread of a row, without gaps.
-fn mean_spread<const G: bool>(table: &Table, gap: Gap<G>) -> i64 {
+/// The mean spread of a row at these keys, without gaps.
+fn mean_spread<const G: bool>(table: &Table, gap: Gap<G>, keys: &[i64]) -> i64 {
     let mut sum: i64 = 0;
     for person in 0..table.persons {
         let row = row_of(table, person);
         let mut least = GAP_COST;
         let mut greatest = -GAP_COST;
-        for object in 0..row.len() {
+        for object in 0..row.len().min(keys.len()) {
             let cost = gap.cost_of(row[object]);
-            let low = if cost == GAP_COST { -GAP_COST } else { cost };
-            least = if cost < least { cost } else { least };
+            let value = cost.wrapping_add(keys[object] >> 1);
+            let low = if cost == GAP_COST { -GAP_COST } else { value };
+            least = if value < least { value } else { least };
             greatest = if greatest < low { low } else { greatest };
         }
         sum = sum.saturating_add(greatest.wrapping_sub(least).max(0));
@@ -65,21 +62,29 @@ fn play<P: Pause, const G: bool>(
     }
 }
 
+/// The least eps that is worth a phase, at this mean spread of a row.
+fn last_eps(table: &Table, spread: i64) -> i64 {
+    let between = spread.checked_div(i64::from(table.objects)).unwrap_or(0);
+    between.checked_div(EPS_DIVISOR).unwrap_or(0)
+}
+
 /// Raises the prices of a market with as many objects as persons in phases, after which nobody holds anything. Eps
 /// falls from an eighth of the mean spread of a row to an eighth of that spread divided by the number of objects. Where
-/// costs are random, this quotient is the difference between neighbouring ones.
+/// costs are random, this quotient is the difference between neighbouring ones. Where it is reached, the spread is taken
+/// anew, at the prices of then: what a column costs everybody no longer counts there.
 pub(crate) fn raise_prices<P: Pause, const G: bool>(
     table: &Table,
     gap: Gap<G>,
     market: &mut Market,
     budget: &mut Budget<'_, P>,
 ) {
-    let spread = mean_spread(table, gap);
-    let between = spread.checked_div(i64::from(table.objects)).unwrap_or(0);
-    let last = between.checked_div(EPS_DIVISOR).unwrap_or(0);
+    let mut spread = mean_spread(table, gap, market.keys.as_slice());
     let mut eps = spread;
     for _ in 0..64 {
-        if eps <= last || eps <= 1 || budget.is_spent(market.scanned) {
+        if eps <= last_eps(table, spread) {
+            spread = mean_spread(table, gap, market.keys.as_slice());
+        }
+        if eps <= last_eps(table, spread) || eps <= 1 || budget.is_spent(market.scanned) {
             break;
         }
         eps = eps.checked_div(EPS_DIVISOR).unwrap_or(0).max(1);

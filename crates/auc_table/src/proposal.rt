@@ -85,14 +85,14 @@ fn assign_all<P: Pause, const G: bool>(
 ) -> Result<bool, AllocError> {
     let mut free = reduce_rows(table, gap, market, budget);
     if table.persons == table.objects {
-        let few = budget.scans().min(scans_of_paths(table));
+        let few = budget.scans.min(scans_of_paths(table));
         if augment(table, market, search, free, few, budget)? {
             return Ok(true);
         }
         raise_prices(table, gap, market, budget);
         free = reduce_rows(table, gap, market, budget);
     }
-    let scans = budget.scans();
+    let scans = budget.scans;
     augment(table, market, search, free, scans, budget)
 }
 

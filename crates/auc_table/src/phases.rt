@@ -62,33 +62,35 @@ fn play<P: Pause, const G: bool>(
     }
 }
 
-/// The least eps that is worth a phase, at this mean spread of a row.
+/// The least eps that is worth a phase, at this mean spread of a row. Where costs are random, neighbouring ones differ by
+/// the spread divided by the number of objects.
 fn last_eps(table: &Table, spread: i64) -> i64 {
     let between = spread.checked_div(i64::from(table.objects)).unwrap_or(0);
     between.checked_div(EPS_DIVISOR).unwrap_or(0)
 }
 
-/// Raises the prices of a market with as many objects as persons in phases, after which nobody holds anything. Eps
-/// falls from an eighth of the mean spread of a row to an eighth of that spread divided by the number of objects. Where
-/// costs are random, this quotient is the difference between neighbouring ones. Where it is reached, the spread is taken
-/// anew, at the prices of then: what a column costs everybody no longer counts there.
+/// Raises the prices of a market with as many objects as persons, after which nobody holds anything. Eps falls from an
+/// eighth of `from`, or of the mean spread of a row, until it isn't worth a phase; returns it. At the end the spread is
+/// taken anew, at the prices of then: what a column costs everybody no longer counts there.
 pub(crate) fn raise_prices<P: Pause, const G: bool>(
     table: &Table,
     gap: Gap<G>,
     market: &mut Market,
+    from: i64,
     budget: &mut Budget<'_, P>,
-) {
+) -> i64 {
     let mut spread = mean_spread(table, gap, market.keys.as_slice());
-    let mut eps = spread;
+    let mut eps = from.min(spread);
     for _ in 0..64 {
+        eps = eps.checked_div(EPS_DIVISOR).unwrap_or(0).max(1);
+        play(table, gap, market, eps, budget);
         if eps <= last_eps(table, spread) {
             spread = mean_spread(table, gap, market.keys.as_slice());
         }
         if eps <= last_eps(table, spread) || eps <= 1 || budget.is_spent(market.scanned) {
             break;
         }
-        eps = eps.checked_div(EPS_DIVISOR).unwrap_or(0).max(1);
-        play(table, gap, market, eps, budget);
     }
     market.release();
+    eps
 }

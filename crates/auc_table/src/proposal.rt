@@ -37,9 +37,20 @@ fn reduce_rows<P: Pause, const G: bool>(
     market.count_free()
 }
 
-/// The persons who have nothing, so many, each take a path. Returns whether each person has an object: not where there
-/// are too few objects, nor where the budget is spent. Once paths have scanned a quarter of `scans`, they are given up
-/// where others as long as their mean, and as the last one, would come to `scans`. The first ones may be long.
+/// What the paths of all persons who have nothing have come to.
+#[derive(Clone, Copy, PartialEq, Eq)]
+enum Paths {
+    /// Each person has an object.
+    Taken,
+    /// They are long, or the budget is spent.
+    Long,
+    /// Some person has no path to a free object: there is no assignment.
+    Missing,
+}
+
+/// The persons who have nothing, so many, each take a path. Once paths have scanned a quarter of what is left of
+/// `scans`, they are given up where others as long as their mean, and as the last one, would come to more than that. The
+/// first ones may be long.
 fn augment<P: Pause, const G: bool>(
     table: &Table,
     market: &mut Market,
@@ -47,9 +58,10 @@ fn augment<P: Pause, const G: bool>(
     free: u32,
     scans: u64,
     budget: &mut Budget<'_, P>,
-) -> Result<bool, AllocError> {
+) -> Result<Paths, AllocError> {
     let all = u64::from(free);
     let before = market.scanned;
+    let left = scans.saturating_sub(before);
     let mut last: u64 = 0;
     let mut done: u64 = 0;
     for person in 0..table.persons {
@@ -58,40 +70,59 @@ fn augment<P: Pause, const G: bool>(
             continue;
         }
         let taken = market.scanned.saturating_sub(before);
-        let are_long = taken.saturating_mul(all) > scans.saturating_mul(done)
-            && last.saturating_mul(all.saturating_sub(done)) > scans;
-        let is_over = scans < market.scanned || scans / 4 < taken && are_long;
+        let are_long = taken.saturating_mul(all) > left.saturating_mul(done)
+            && last.saturating_mul(all.saturating_sub(done)) > left;
+        let is_over = left < taken || left / 4 < taken && are_long;
         if is_over || budget.is_spent(market.scanned) {
-            return Ok(false);
+            return Ok(Paths::Long);
         }
         let earlier = market.scanned;
         if !search.go(table, market, person)? {
-            return Ok(false);
+            return Ok(Paths::Missing);
         }
         last = market.scanned.saturating_sub(earlier);
         done = done.saturating_add(1);
     }
-    Ok(true)
+    Ok(Paths::Taken)
 }
 
-/// Gives each person an object. Where paths are long, an auction raises the prices first. With more objects than
-/// persons none does, since what nobody takes has to keep price 0.
+/// Gives each person an object, where there are as many objects as persons. Where paths are long, an auction raises the
+/// prices. Then they may scan as much as all before them has; where that doesn't do, eps falls further.
+fn assign_square<P: Pause, const G: bool>(
+    table: &Table,
+    gap: Gap<G>,
+    market: &mut Market,
+    search: &mut Search<G>,
+    budget: &mut Budget<'_, P>,
+) -> Result<Paths, AllocError> {
+    let mut scans = scans_of_paths(table);
+    let mut eps = i64::MAX;
+    for _ in 0..64 {
+        let free = reduce_rows(table, gap, market, budget);
+        let most = if eps <= 1 { budget.scans } else { scans };
+        let paths = augment(table, market, search, free, most, budget)?;
+        if paths != Paths::Long || eps <= 1 || budget.is_spent(market.scanned) {
+            return Ok(paths);
+        }
+        eps = raise_prices(table, gap, market, eps, budget);
+        scans = market.scanned.saturating_mul(2);
+    }
+    Ok(Paths::Long)
+}
+
+/// Gives each person an object. With more objects than persons no auction raises prices, since what nobody takes has to
+/// keep price 0.
 fn assign_all<P: Pause, const G: bool>(
     table: &Table,
     gap: Gap<G>,
     market: &mut Market,
     search: &mut Search<G>,
     budget: &mut Budget<'_, P>,
-) -> Result<bool, AllocError> {
-    let mut free = reduce_rows(table, gap, market, budget);
+) -> Result<Paths, AllocError> {
     if table.persons == table.objects {
-        let few = budget.scans.min(scans_of_paths(table));
-        if augment(table, market, search, free, few, budget)? {
-            return Ok(true);
-        }
-        raise_prices(table, gap, market, budget);
-        free = reduce_rows(table, gap, market, budget);
+        return assign_square(table, gap, market, search, budget);
     }
+    let free = reduce_rows(table, gap, market, budget);
     let scans = budget.scans;
     augment(table, market, search, free, scans, budget)
 }
@@ -108,7 +139,8 @@ fn propose_by<P: Pause, const G: bool>(
     let keys = start_keys(alloc, table, gap, start, scale)?;
     let mut market = Market::new(alloc, table.persons, keys)?;
     let mut search = Search::new(alloc, gap, table.objects)?;
-    if !assign_all(table, gap, &mut market, &mut search, &mut budget)? {
+    let paths = assign_all(table, gap, &mut market, &mut search, &mut budget)?;
+    if paths != Paths::Taken {
         return Ok(None);
     }
     let Market {

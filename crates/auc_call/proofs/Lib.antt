@@ -2,6 +2,7 @@
 pub mod PlaceLaws
 pub mod PickLaws
 pub mod ToldLaws
+pub mod LimitedLaws
 -- for this crate
 mod StartLaws
 mod RunLaws
@@ -10,5 +11,4 @@ mod MadeLaws
 mod SolvingLaws
 mod CheckLaws
 mod ToldChecks
-mod LimitedLaws
 mod DriverLaws

@@ -44,6 +44,10 @@ limit_kind Posts = 3
 limit_kind Trail = 4
 limit_kind Mail = 5
 
+-- what is told after a watch has stopped a run: that of a limit on bids
+abbrev pub stop_kind : ℕ
+stop_kind = limit_kind Bids
+
 -- the last three never come of a check over a caller's memory
 abbrev pub refused_kind : CertRefused → ℕ
 refused_kind (ObjectTwice object) = 3

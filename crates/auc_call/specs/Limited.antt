@@ -1,5 +1,5 @@
--- A direct run leaves a bracket only where one of its limits has stopped it.
-use Rattle.std.specs.Prelude.{◌≡◌, ℕ, ℤ, List, [], ◌∷◌}
+-- A direct run leaves a bracket only where one of its limits has stopped it, or its watch.
+use Rattle.std.specs.Prelude.{Bool, true, ◌≡◌, ◌⊎◌, ℕ, ℤ, List, [], ◌∷◌}
 use Rattle.auc_graph.specs.Problem.{Problem}
 use Rattle.auc_claim.specs.declared.lists.Pick.{Pick}
 use Rattle.auc_claim.specs.declared.reason.Reason.{Reason}
@@ -9,6 +9,10 @@ use Rattle.auc_answers.specs.declared.answer.Answer.{Answer}
 use Rattle.auc_direct.specs.Endings.{IsLimitedFirst, IsLimitedFrom}
 use Rattle.auc_call.specs.Codes.{limit_kind}
 use Rattle.auc_call.specs.Memory.{AreAt}
+
+-- Either the watch has said no, and this is told of a stop; or that holds.
+abbrev pub UnlessStopped : Bool → Type 0 → Type 0 → Type 0
+UnlessStopped stopped Stop Holds = ((stopped ≡ true) × Stop) ⊎ Holds
 
 -- of a run by so many bids from these prices, or without a start where there are none
 abbrev pub IsLimitedIn : Problem → List ℤ → ℕ → Answer → Type 0

@@ -1,10 +1,12 @@
 //! The calls. What each owes its caller is a record of one fact for each status (`specs/Told`).
 
-ghost use Rattle.std.specs.Prelude.{◌≡◌, ◌≢◌, pos};
+ghost use Rattle.std.specs.Prelude.{◌≡◌, ◌≢◌, ◌⊎◌, pos};
+ghost use Rattle.auc_call.specs.Codes.{stop_kind};
 ghost use Rattle.auc_call.specs.Given.{listed_problem};
+ghost use Rattle.auc_call.specs.Drivers.{WasAsked};
 ghost use Rattle.auc_call.specs.Memory.{memory};
 ghost use Rattle.auc_call.specs.Start.{start_fault, start_fault_by_messages};
-ghost use Rattle.auc_call.specs.Limited.{IsLimitTold};
+ghost use Rattle.auc_call.specs.Limited.{IsLimitTold, UnlessStopped};
 ghost use Rattle.auc_call.specs.Running.{IsRunTold};
 ghost use Rattle.auc_call.specs.Told.{IsClaimChecked, IsHallChecked, IsListTold};
 
@@ -14,6 +16,7 @@ use crate::found::Found;
 use crate::given::{GivenArcs, Run};
 use crate::solving::solve_into;
 use crate::telling::{tell_checked, tell_solved};
+use auc_direct::Watch;
 use std::alloc::Global;
 
 /// Solves a problem: a least-cost assignment, persons who have arcs to too few objects, or, where the bids don't
@@ -25,24 +28,33 @@ use std::alloc::Global;
 /// `found.persons` persons, and `hall_objects` with the `found.objects` objects of their arcs, both rising. All else
 /// stays as it was.
 ///
-/// The solver is the direct one, [`auc_direct::solve_direct`], or from a start [`auc_direct::solve_direct_from`],
-/// whose time and memory it takes, beside a copy of the arcs. Clause `limit` says where a bracket is left.
-pub fn solve_call(
+/// The solver is the direct one, [`auc_direct::solve_direct_watched`], or from a start
+/// [`auc_direct::solve_direct_watched_from`], whose time and memory it takes, beside a copy of the arcs.
+///
+/// `run.watch` is asked before each phase and between bids, as [`auc_direct::solve_direct_watched`] says, and not
+/// before the arcs are copied. After its no the status is [`BRACKET`](crate::BRACKET), with the kind of a limit on
+/// bids, or that there is no assignment. Without a no a bracket is left only by a limit: clause `limit`. It is asked
+/// once at least, but for a full table or where there is no assignment: clause `asked`.
+pub fn solve_call<W: Watch>(
     alloc: Global,
     given: &GivenArcs,
-    run: &Run,
+    run: &mut Run<'_, W>,
     choice: &mut [u32],
     prices: &mut [i64],
     hall_objects: &mut [u32],
     found: &mut Found,
 ) -> i32
     ensures told { IsListTold (listed_problem given.now)
-        (start_fault (listed_problem given.now) run.now.start.now) result
+        (start_fault (listed_problem given.now) run.old.start.now) result
         (memory choice.old prices.old hall_objects.old) (memory choice.new prices.new hall_objects.new) found.old
         found.new }
     ensures limit { result ≡ pos 4
-        → IsLimitTold (listed_problem given.now) run.now.start.now run.now.bids
-        choice.new prices.new found.new.kind found.new.lower found.new.cost }
+        → UnlessStopped (W.has_stopped run.new.watch) (found.new.kind ≡ stop_kind)
+        (IsLimitTold (listed_problem given.now) run.old.start.now run.old.bids
+        choice.new prices.new found.new.kind found.new.lower found.new.cost) }
+    ensures asked { (result ≡ pos 0) ⊎ (result ≡ pos 4)
+        → WasAsked (W.was_asked run.new.watch) (listed_problem given.now) }
+    ensures kept { (run.new.start.now ≡ run.old.start.now) × (run.new.bids ≡ run.old.bids) }
 {
     let solved = solve_into(
         alloc,
@@ -58,25 +70,27 @@ pub fn solve_call(
 
 /// Solves as [`solve_call`] does, but by messages, as the program does without `--direct`: clause `run` says which run
 /// the answer is of. Of several least assignments it may be another one. A start is for as many objects as persons.
+/// `run.watch` isn't asked.
 ///
 /// Takes the time of [`auc_world::solve_serial`], which may be far longer where there are more objects than persons and
 /// costs differ much; and 44 bytes of memory an arc, the caller's own among them.
-pub fn solve_by_messages_call(
+pub fn solve_by_messages_call<W: Watch>(
     alloc: Global,
     given: &GivenArcs,
-    run: &Run,
+    run: &mut Run<'_, W>,
     choice: &mut [u32],
     prices: &mut [i64],
     hall_objects: &mut [u32],
     found: &mut Found,
 ) -> i32
     ensures told { IsListTold (listed_problem given.now)
-        (start_fault_by_messages (listed_problem given.now) run.now.start.now) result
+        (start_fault_by_messages (listed_problem given.now) run.old.start.now) result
         (memory choice.old prices.old hall_objects.old) (memory choice.new prices.new hall_objects.new) found.old
         found.new }
     ensures run { result ≢ pos 2 → result ≢ pos 5 → result ≢ pos 6 → result ≢ pos 7
-        → IsRunTold (listed_problem given.now) run.now.start.now run.now.bids
+        → IsRunTold (listed_problem given.now) run.old.start.now run.old.bids
         (memory choice.new prices.new hall_objects.new) result found.old found.new }
+    ensures kept { (run.new.start.now ≡ run.old.start.now) × (run.new.bids ≡ run.old.bids) }
 {
     let solved = solve_into(
         alloc,

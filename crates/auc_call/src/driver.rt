@@ -6,11 +6,12 @@ ghost use Rattle.auc_answers.specs.Answers.{IsAnswer};
 ghost use Rattle.auc_direct.specs.Starts.{AreStartPrices};
 ghost use Rattle.auc_world.specs.Chain.{IsOfRun};
 ghost use Rattle.auc_call.specs.Drivers.{IsAnswerBy};
-ghost use Rattle.auc_call.specs.Limited.{IsLimitedIn};
+ghost use Rattle.auc_call.specs.declared.driver.Driver.{Driver};
 ghost use Rattle.auc_call.specs.Running.{limits_of, start_in};
 ghost use Rattle.auc_call.specs.Start.{CanStart};
 
-use auc_direct::{DirectLimits, solve_direct, solve_direct_from};
+use crate::given::Run;
+use auc_direct::{DirectLimits, Watch, solve_direct_watched, solve_direct_watched_from};
 use auc_graph::ArcList;
 use auc_world::{Answer, Limits, solve_serial, solve_serial_from};
 use std::alloc::{AllocError, Global};
@@ -24,22 +25,24 @@ pub enum Driver {
     Messages,
 }
 
-/// What the direct solver answers, from these prices where there are any.
-fn answer_directly(
+/// What the direct solver answers, from the start's prices where there are any.
+fn answer_directly<W: Watch>(
     alloc: Global,
     problem: &ArcList,
-    start: &[i64],
-    bids: u64,
+    run: &mut Run<'_, W>,
 ) -> Result<Answer, AllocError>
-    requires { start.now ≢ [] → AreStartPrices problem.now start.now }
+    requires { run.old.start.now ≢ [] → AreStartPrices problem.now run.old.start.now }
     ensures is { IfOk result (IsAnswer problem.now) }
-    ensures limit { IfOk result (IsLimitedIn problem.now start.now bids) }
+    ensures run { IfOk result
+        (IsAnswerBy Driver.Direct problem.now run.old.start.now run.old.bids (W.has_stopped run.new.watch)
+        (W.was_asked run.new.watch)) }
+    ensures kept { (run.new.start.now ≡ run.old.start.now) × (run.new.bids ≡ run.old.bids) }
 {
-    let limits = DirectLimits { bids };
-    if start.is_empty() {
-        return solve_direct(alloc, problem, &limits);
+    let limits = DirectLimits { bids: run.bids };
+    if run.start.is_empty() {
+        return solve_direct_watched(alloc, problem, &limits, &mut run.watch);
     }
-    solve_direct_from(alloc, problem, &limits, start)
+    solve_direct_watched_from(alloc, problem, &limits, run.start, &mut run.watch)
 }
 
 /// What the solver by messages does.
@@ -63,20 +66,22 @@ fn answer_by_messages(
     solve_serial_from(alloc, problem, &limits, start)
 }
 
-/// What the solver of this kind does.
-pub(crate) fn answer_of(
+/// What the solver of this kind does. The one by messages asks no watch.
+pub(crate) fn answer_of<W: Watch>(
     alloc: Global,
     driver: Driver,
     problem: &ArcList,
-    start: &[i64],
-    bids: u64,
+    run: &mut Run<'_, W>,
 ) -> Result<Answer, AllocError>
-    requires { start.now ≢ [] → CanStart driver problem.now start.now }
+    requires { run.old.start.now ≢ [] → CanStart driver problem.now run.old.start.now }
     ensures is { IfOk result (IsAnswer problem.now) }
-    ensures run { IfOk result (IsAnswerBy driver problem.now start.now bids) }
+    ensures run { IfOk result
+        (IsAnswerBy driver problem.now run.old.start.now run.old.bids (W.has_stopped run.new.watch)
+        (W.was_asked run.new.watch)) }
+    ensures kept { (run.new.start.now ≡ run.old.start.now) × (run.new.bids ≡ run.old.bids) }
 {
     match driver {
-        Driver::Direct => answer_directly(alloc, problem, start, bids),
-        Driver::Messages => answer_by_messages(alloc, problem, start, bids),
+        Driver::Direct => answer_directly(alloc, problem, run),
+        Driver::Messages => answer_by_messages(alloc, problem, run.start, run.bids),
     }
 }

@@ -13,12 +13,14 @@ pub struct GivenArcs<'a> {
     pub arcs: &'a [Arc],
 }
 
-/// Where a run starts, and how long it may take.
-#[derive(Clone, Copy)]
-pub struct Run<'a> {
+/// Where a run starts, how long it may take, and what may end it before that.
+#[derive(Drop)]
+pub struct Run<'a, W> {
     /// The prices to start from, indexed by object, from 0 to 2^60 on the scale of costs times persons + 1, as an
     /// earlier call has left them in `prices`. None at all are a start from nothing.
     pub start: &'a [i64],
     /// The most bids of a phase.
     pub bids: u64,
+    /// What is asked whether the run goes on: see [`auc_direct::Watch`]. [`auc_direct::Onward`] never ends it.
+    pub watch: W,
 }

@@ -13,6 +13,7 @@ use crate::given::{GivenArcs, Run};
 use crate::handing::{hand_bracket, hand_hall, hand_optimal};
 use crate::solved::{Failed, Solved};
 use crate::start::start_fault_by;
+use auc_direct::Watch;
 use auc_graph::{ArcList, objects_or};
 use auc_world::Answer;
 use std::alloc::Global;
@@ -40,43 +41,46 @@ fn hand_out(
 }
 
 /// Solves a problem by this solver, and writes the answer into the caller's memory.
-pub fn solve_problem(
+pub fn solve_problem<W: Watch>(
     alloc: Global,
     driver: Driver,
     problem: &ArcList,
-    run: &Run,
+    run: &mut Run<'_, W>,
     choice: &mut [u32],
     prices: &mut [i64],
     set: &mut [u32],
 ) -> Result<Solved, Failed>
     requires sizes { AreSizes problem.now (memory choice.old prices.old set.old) }
-    ensures runs { Runs driver problem.now run.now.start.now
+    ensures runs { Runs driver problem.now run.old.start.now
         (memory choice.old prices.old set.old) (memory choice.new prices.new set.new) result }
     ensures run { IfOk result
-        (IsSolvedBy driver problem.now run.now.start.now run.now.bids (memory choice.new prices.new set.new)) }
+        (IsSolvedBy driver problem.now run.old.start.now run.old.bids (W.has_stopped run.new.watch)
+        (W.was_asked run.new.watch) (memory choice.new prices.new set.new)) }
+    ensures kept { (run.new.start.now ≡ run.old.start.now) × (run.new.bids ≡ run.old.bids) }
 {
     if let Some(fault) = start_fault_by(driver, problem, run.start) {
         return Err(Failed::Start(fault));
     }
-    let answer = answer_of(alloc, driver, problem, run.start, run.bids)?;
+    let answer = answer_of(alloc, driver, problem, run)?;
     Ok(hand_out(problem, &answer, choice, prices, set))
 }
 
 /// Solves the problem of these arcs by this solver, and writes the answer into the caller's memory.
-pub(crate) fn solve_into(
+pub(crate) fn solve_into<W: Watch>(
     alloc: Global,
     driver: Driver,
     given: &GivenArcs,
-    run: &Run,
+    run: &mut Run<'_, W>,
     choice: &mut [u32],
     prices: &mut [i64],
     set: &mut [u32],
 ) -> Result<Solved, Failed>
-    ensures solves { Solves driver (listed_problem given.now) run.now.start.now
+    ensures solves { Solves driver (listed_problem given.now) run.old.start.now
         (memory choice.old prices.old set.old) (memory choice.new prices.new set.new) result }
     ensures run { IfOk result
-        (IsSolvedBy driver (listed_problem given.now) run.now.start.now run.now.bids
-        (memory choice.new prices.new set.new)) }
+        (IsSolvedBy driver (listed_problem given.now) run.old.start.now run.old.bids (W.has_stopped run.new.watch)
+        (W.was_asked run.new.watch) (memory choice.new prices.new set.new)) }
+    ensures kept { (run.new.start.now ≡ run.old.start.now) × (run.new.bids ≡ run.old.bids) }
 {
     let wanted = objects_or(given.objects, given.persons) as usize;
     let places = given.persons as usize;

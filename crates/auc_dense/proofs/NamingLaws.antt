@@ -1,5 +1,5 @@
 -- Objects in place of arcs.
-use Rattle.std.proofs.Common.{◌<◌, ℕ, List, length, get_or, refl, subst, All}
+use Rattle.std.proofs.Common.{Bool, ◌<◌, ℕ, List, length, get_or, refl, subst, All}
 use Rattle.std.specs.Prelude.{ℤ}
 use Rattle.std.proofs.lemmas.List.{get_or_default}
 use Rattle.std.proofs.lemmas.Option.{slice_get_within}
@@ -26,8 +26,8 @@ named_places p before after (Infeasible persons objects) h = tt
 named_places p before after (Bracket reason lower cost) h = within p.arcs after.choice h.0.picks h.0.at
 
 -- the places of what was found are those of its objects
-pub table_solved : (p : Problem) (start : List ℤ) (bids : ℕ) (before after : Memory) (solved : Solved) → IsSolved p before after solved → IsLimitedSolve p start bids after solved
-    → IsTableSolved p start bids before (memory (named p.arcs solved after.choice) after.prices after.set) solved
-table_solved p start bids before after (Optimal cost) h limited = (record { places = after.choice; objects_are = refl; holds = h.0 }, h.1)
-table_solved p start bids before after (Infeasible persons objects) h limited = h
-table_solved p start bids before after (Bracket reason lower cost) h limited = (record { places = after.choice; objects_are = refl; holds = (h.0, limited) }, h.1)
+pub table_solved : (p : Problem) (start : List ℤ) (bids : ℕ) (stopped : Bool) (before after : Memory) (solved : Solved) → IsSolved p before after solved → IsLimitedSolve p start bids stopped after solved
+    → IsTableSolved p start bids stopped before (memory (named p.arcs solved after.choice) after.prices after.set) solved
+table_solved p start bids stopped before after (Optimal cost) h limited = (record { places = after.choice; objects_are = refl; holds = h.0 }, h.1)
+table_solved p start bids stopped before after (Infeasible persons objects) h limited = h
+table_solved p start bids stopped before after (Bracket reason lower cost) h limited = (record { places = after.choice; objects_are = refl; holds = (h.0, limited) }, h.1)

@@ -9,7 +9,7 @@ ghost use Rattle.auc_dense.specs.Table.{IsTable, table_arcs};
 ghost use Rattle.auc_dense.specs.Tried.{IsPlainPrice, scaled};
 
 use crate::trying::{scale_of, try_out};
-use auc_call::{Run, prices_fault};
+use auc_call::{Pausing, Run, Watch, prices_fault};
 use auc_claim::{Pick, cost_of};
 use auc_table::{Table, propose};
 use std::alloc::{AllocError, Global};
@@ -37,12 +37,12 @@ fn put_prices(scale: i64, plain: &[i64], prices: &mut [i64])
 
 /// Solves a table of so many arcs, where the start has no fault and the search comes to a least assignment soon enough;
 /// gives its cost. Else nothing is written.
-pub(crate) fn solve_quickly(
+pub(crate) fn solve_quickly<W: Watch>(
     alloc: Global,
     table: &Table,
     gap: i64,
     count: usize,
-    run: &Run,
+    run: &mut Run<'_, W>,
     choice: &mut [u32],
     prices: &mut [i64],
 ) -> Result<Option<i64>, AllocError>
@@ -53,10 +53,11 @@ pub(crate) fn solve_quickly(
     requires prices { length prices.old ≡ table.now.objects }
     ensures start { IfOk result (λ o. IfSome o (λ cost. start_fault (problem table.now.persons table.now.objects
         (table_arcs table.now.objects table.now.costs.now table.now.stride gap table.now.persons))
-        run.now.start.now ≡ None)) }
+        run.old.start.now ≡ None)) }
     ensures quick { IsQuick (problem table.now.persons table.now.objects
         (table_arcs table.now.objects table.now.costs.now table.now.stride gap table.now.persons))
         choice.old choice.new prices.old prices.new result }
+    ensures kept { (run.new.start.now ≡ run.old.start.now) × (run.new.bids ≡ run.old.bids) }
 {
     let Table {
         persons,
@@ -72,7 +73,9 @@ pub(crate) fn solve_quickly(
     // To look over a row counts as a bid.
     let scans = u64::from(objects).saturating_mul(run.bids);
     let scale = scale_of(persons);
-    let Some(found) = propose(alloc, table, gaps, run.start, scale, scans)? else {
+    let mut pausing = Pausing::new(objects, &mut run.watch);
+    let found = propose(alloc, table, gaps, run.start, scale, scans, &mut pausing)?;
+    let Some(found) = found else {
         return Ok(None);
     };
     let Some(picks) = try_out(alloc, persons, objects, costs, stride, gap, &found)? else {

@@ -1,16 +1,17 @@
 //! The call over a table.
 
 ghost use Rattle.std.specs.Prelude.{◌≡◌, length, pos};
+ghost use Rattle.auc_call.specs.Codes.{stop_kind};
 ghost use Rattle.auc_call.specs.Memory.{memory};
 ghost use Rattle.auc_call.specs.Start.{start_fault};
-ghost use Rattle.auc_call.specs.Limited.{IsLimitTold};
+ghost use Rattle.auc_call.specs.Limited.{IsLimitTold, UnlessStopped};
 ghost use Rattle.auc_dense.specs.Given.{tabled_problem};
 ghost use Rattle.auc_dense.specs.Naming.{ByObjects};
 ghost use Rattle.auc_dense.specs.Told.{IsTableTold};
 
 use crate::given::GivenTable;
 use crate::table_solving::solve_table_into;
-use auc_call::{Found, Run, tell_solved};
+use auc_call::{Found, Run, Watch, tell_solved};
 use std::alloc::Global;
 
 /// Solves as [`auc_call::solve_call`] does, but the problem of a table. The arcs are those of the entries that are no
@@ -27,22 +28,30 @@ use std::alloc::Global;
 /// most, and at most 44 bytes of memory an object and 20 a person. After more bids, and where there is no assignment,
 /// the arcs are written out and solved: that takes the time and memory of [`auc_call::solve_call`], but for its copy of
 /// the arcs, which is the only one here: 16 bytes for each entry that is no gap.
-pub fn solve_table_call(
+///
+/// `run.watch` is asked within the search after about as many entries as the direct solver scans between two questions
+/// ([`auc_call::Pausing`]), and as [`auc_call::solve_call`] says while the arcs are solved; not while the entries are
+/// counted, a proposal is tried or the arcs are written out. After a no within the search the arcs are written out all
+/// the same, and the status is [`auc_call::BRACKET`], with the kind of a limit on bids, or that there is no assignment.
+pub fn solve_table_call<W: Watch>(
     alloc: Global,
     given: &GivenTable,
-    run: &Run,
+    run: &mut Run<'_, W>,
     choice: &mut [u32],
     prices: &mut [i64],
     hall_objects: &mut [u32],
     found: &mut Found,
 ) -> i32
     ensures told { IsTableTold (tabled_problem given.now) given.now.stride (length given.now.costs.now)
-        (start_fault (tabled_problem given.now) run.now.start.now) result
+        (start_fault (tabled_problem given.now) run.old.start.now) result
         (memory choice.old prices.old hall_objects.old) (memory choice.new prices.new hall_objects.new) found.old
         found.new }
-    ensures limit { result ≡ pos 4 → ByObjects (tabled_problem given.now).arcs choice.new
-        (λ places. IsLimitTold (tabled_problem given.now) run.now.start.now run.now.bids
-        places prices.new found.new.kind found.new.lower found.new.cost) }
+    ensures limit { result ≡ pos 4
+        → UnlessStopped (W.has_stopped run.new.watch) (found.new.kind ≡ stop_kind)
+        (ByObjects (tabled_problem given.now).arcs choice.new
+        (λ places. IsLimitTold (tabled_problem given.now) run.old.start.now run.old.bids
+        places prices.new found.new.kind found.new.lower found.new.cost)) }
+    ensures kept { (run.new.start.now ≡ run.old.start.now) × (run.new.bids ≡ run.old.bids) }
 {
     let solved = solve_table_into(alloc, given, run, choice, prices, hall_objects);
     tell_solved(solved, found)

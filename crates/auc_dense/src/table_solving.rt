@@ -11,7 +11,7 @@ use crate::given::GivenTable;
 use crate::naming::name_objects;
 use crate::quick::solve_quickly;
 use crate::table::{arcs_of_table, count_arcs, is_table};
-use auc_call::{Driver, Failed, Run, Solved, solve_problem};
+use auc_call::{Driver, Failed, Run, Solved, Watch, solve_problem};
 use auc_graph::{ArcList, list_fault, objects_or};
 use auc_table::Table;
 use std::alloc::{AllocError, Global};
@@ -61,17 +61,18 @@ fn problem_of_table(alloc: Global, given: &GivenTable, count: usize) -> Result<A
 }
 
 /// Solves a problem of a table by its arcs, and writes objects in place of them.
-fn solve_arcs(
+fn solve_arcs<W: Watch>(
     alloc: Global,
     problem: &ArcList,
-    run: &Run,
+    run: &mut Run<'_, W>,
     choice: &mut [u32],
     prices: &mut [i64],
     set: &mut [u32],
 ) -> Result<Solved, Failed>
     requires { AreSizes problem.now (memory choice.old prices.old set.old) }
-    ensures { SolvesArcs problem.now run.now.start.now run.now.bids
+    ensures solves { SolvesArcs problem.now run.old.start.now run.old.bids (W.has_stopped run.new.watch)
         (memory choice.old prices.old set.old) (memory choice.new prices.new set.new) result }
+    ensures kept { (run.new.start.now ≡ run.old.start.now) × (run.new.bids ≡ run.old.bids) }
 {
     let solved = solve_problem(alloc, Driver::Direct, problem, run, choice, prices, set)?;
     name_objects(problem.arcs(), solved, choice);
@@ -80,16 +81,18 @@ fn solve_arcs(
 
 /// Solves the problem of a table directly, and writes the answer into the caller's memory, with objects in place of
 /// arcs. A search over the table itself comes first.
-pub(crate) fn solve_table_into(
+pub(crate) fn solve_table_into<W: Watch>(
     alloc: Global,
     given: &GivenTable,
-    run: &Run,
+    run: &mut Run<'_, W>,
     choice: &mut [u32],
     prices: &mut [i64],
     set: &mut [u32],
 ) -> Result<Solved, Failed>
-    ensures { SolvesTable (tabled_problem given.now) given.now.stride (length given.now.costs.now) run.now.start.now
-        run.now.bids (memory choice.old prices.old set.old) (memory choice.new prices.new set.new) result }
+    ensures solves { SolvesTable (tabled_problem given.now) given.now.stride (length given.now.costs.now)
+        run.old.start.now run.old.bids (W.has_stopped run.new.watch) (memory choice.old prices.old set.old)
+        (memory choice.new prices.new set.new) result }
+    ensures kept { (run.new.start.now ≡ run.old.start.now) × (run.new.bids ≡ run.old.bids) }
 {
     let GivenTable {
         persons,

@@ -1,9 +1,9 @@
 //! Each call once, by its statuses.
 
-use crate::given::given_arcs;
+use crate::given::{given_arcs, run_of};
 use crate::same::assert_same;
 use auc_call::{
-    BRACKET, Found, INFEASIBLE, INVALID, OPTIMAL, REFUSED, Run, SIZES, START, check_call,
+    BRACKET, Found, INFEASIBLE, INVALID, OPTIMAL, REFUSED, SIZES, START, check_call,
     check_hall_call, solve_call,
 };
 use auc_graph::{Arc, ArcList, ListFault, list_fault};
@@ -62,10 +62,7 @@ fn optimal(rt: HostRuntime) {
     let status = solve_call(
         rt.alloc(),
         &given_arcs(2, 0, &TWO),
-        &Run {
-            start: &[],
-            bids: 1000,
-        },
+        &mut run_of(&[], 1000),
         &mut choice,
         &mut prices,
         &mut objects,
@@ -100,10 +97,7 @@ fn bracket_and_start(rt: HostRuntime) {
     let status = solve_call(
         rt.alloc(),
         &given_arcs(2, 0, &TWO[..3]),
-        &Run {
-            start: &[],
-            bids: 0,
-        },
+        &mut run_of(&[], 0),
         &mut choice,
         &mut prices,
         &mut objects,
@@ -114,10 +108,7 @@ fn bracket_and_start(rt: HostRuntime) {
     let status = solve_call(
         rt.alloc(),
         &given_arcs(2, 0, &TWO),
-        &Run {
-            start: &[0, -1],
-            bids: 9,
-        },
+        &mut run_of(&[0, -1], 9),
         &mut choice,
         &mut prices,
         &mut objects,
@@ -132,10 +123,7 @@ fn infeasible(rt: HostRuntime) {
     let status = solve_call(
         rt.alloc(),
         &given_arcs(2, 0, &BOTH),
-        &Run {
-            start: &[],
-            bids: 9,
-        },
+        &mut run_of(&[], 9),
         &mut choice,
         &mut prices,
         &mut objects,
@@ -162,10 +150,7 @@ fn refused(rt: HostRuntime) -> Result<(), Fail> {
     let status = solve_call(
         rt.alloc(),
         &given_arcs(2, 3, &TWO),
-        &Run {
-            start: &[],
-            bids: 9,
-        },
+        &mut run_of(&[], 9),
         &mut choice,
         &mut prices,
         &mut objects,
@@ -186,10 +171,7 @@ fn refused(rt: HostRuntime) -> Result<(), Fail> {
                 },
             ],
         ),
-        &Run {
-            start: &[],
-            bids: 9,
-        },
+        &mut run_of(&[], 9),
         &mut choice,
         &mut prices,
         &mut objects,

@@ -7,6 +7,8 @@ mod calls;
 #[cfg(test)]
 mod given;
 #[cfg(test)]
+mod patience;
+#[cfg(test)]
 mod same;
 #[cfg(test)]
 mod searched;
@@ -14,3 +16,5 @@ mod searched;
 mod spare;
 #[cfg(test)]
 mod tables;
+#[cfg(test)]
+mod watched;

@@ -1,11 +1,21 @@
 //! The search over a table by itself, of which nothing is proved but that it ends.
 
 use crate::same::assert_same;
-use auc_table::{Proposal, Table, propose};
+use auc_table::{Pause, Proposal, Table, propose};
 use std::test::*;
 
 /// No entry is where this number is.
 const GAP: i64 = -7;
+
+/// Never ends a search.
+#[derive(Clone, Copy)]
+struct Endless;
+
+impl Pause for Endless {
+    fn goes_on(&mut self, _scanned: u64) -> bool {
+        true
+    }
+}
 
 /// More looks than a table of three rows takes.
 const ENOUGH: u64 = 1_000;
@@ -24,7 +34,7 @@ fn proposed(
         stride: objects as usize,
         costs,
     };
-    let found = propose(rt.alloc(), &table, gap, &[], 1, looks).ok()??;
+    let found = propose(rt.alloc(), &table, gap, &[], 1, looks, &mut Endless).ok()??;
     let objects = found.objects.as_slice();
     if objects.len() != 3 {
         return None;
@@ -79,7 +89,7 @@ fn of_products(rt: &HostRuntime, start: &[i64], looks: u64) -> Option<Proposal> 
         stride: many,
         costs: costs.as_slice(),
     };
-    propose(rt.alloc(), &table, None, start, 2, looks).ok()?
+    propose(rt.alloc(), &table, None, start, 2, looks, &mut Endless).ok()?
 }
 
 /// The first person has the last object, and so on.

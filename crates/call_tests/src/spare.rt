@@ -1,9 +1,9 @@
 //! More objects than persons, and which of the solvers takes what.
 
-use crate::given::given_arcs;
+use crate::given::{given_arcs, run_of};
 use crate::same::assert_same;
 use auc_call::{
-    BRACKET, Found, OPTIMAL, Run, START, check_call, solve_by_messages_call, solve_call,
+    BRACKET, Found, OPTIMAL, Run, START, Watch, check_call, solve_by_messages_call, solve_call,
 };
 use auc_graph::Arc;
 use std::test::*;
@@ -29,7 +29,7 @@ fn arc(person: u32, object: u32, cost: i64) -> Arc {
 }
 
 /// Three persons who all want the first two objects, with outlets at very unequal costs; the least cost is 10^8.
-fn outlets() -> [Arc; 12] {
+pub(crate) fn outlets() -> [Arc; 12] {
     [
         arc(0, 0, 0),
         arc(0, 1, 0),
@@ -47,13 +47,13 @@ fn outlets() -> [Arc; 12] {
 }
 
 /// What a solve of them has returned, and what is in the caller's memory then.
-#[derive(Clone, Copy)]
-struct Behind {
-    status: i32,
-    choice: [u32; 3],
-    prices: [i64; 4],
-    objects: [u32; 3],
-    found: Found,
+#[derive(Clone, Copy, Debug, PartialEq)]
+pub(crate) struct Behind {
+    pub(crate) status: i32,
+    pub(crate) choice: [u32; 3],
+    pub(crate) prices: [i64; 4],
+    pub(crate) objects: [u32; 3],
+    pub(crate) found: Found,
 }
 
 /// Solves them directly.
@@ -62,12 +62,21 @@ fn solved(rt: &HostRuntime, start: &[i64], bids: u64) -> Behind {
 }
 
 /// The same of these arcs.
-fn solved_of(rt: &HostRuntime, arcs: &[Arc], start: &[i64], bids: u64) -> Behind {
+pub(crate) fn solved_of(rt: &HostRuntime, arcs: &[Arc], start: &[i64], bids: u64) -> Behind {
+    solved_under(rt, arcs, &mut run_of(start, bids))
+}
+
+/// The same by this run.
+pub(crate) fn solved_under<W: Watch>(
+    rt: &HostRuntime,
+    arcs: &[Arc],
+    run: &mut Run<'_, W>,
+) -> Behind {
     let (mut choice, mut prices, mut objects, mut found) = ([7; 3], [7; 4], [7; 3], NOTHING);
     let status = solve_call(
         rt.alloc(),
         &given_arcs(3, 4, arcs),
-        &Run { start, bids },
+        run,
         &mut choice,
         &mut prices,
         &mut objects,
@@ -163,10 +172,7 @@ fn no_start_by_messages(rt: HostRuntime) {
     let status = solve_by_messages_call(
         rt.alloc(),
         &given_arcs(3, 4, &outlets()),
-        &Run {
-            start: &[0, 0, 0, 0],
-            bids: 1000,
-        },
+        &mut run_of(&[0, 0, 0, 0], 1000),
         &mut choice,
         &mut prices,
         &mut objects,
@@ -198,7 +204,7 @@ fn by_messages(rt: HostRuntime) {
         let status = solve_by_messages_call(
             rt.alloc(),
             &given_arcs(2, 0, &arcs),
-            &Run { start, bids: 1000 },
+            &mut run_of(start, 1000),
             &mut choice,
             &mut prices,
             &mut objects,

@@ -1,12 +1,13 @@
 //! The call over a table.
 
+use crate::given::run_of;
 use crate::same::assert_same;
-use auc_call::{BRACKET, Found, INFEASIBLE, OPTIMAL, REFUSED, Run, SIZES, START};
+use auc_call::{BRACKET, Found, INFEASIBLE, OPTIMAL, REFUSED, Run, SIZES, START, Watch};
 use auc_dense::{GivenTable, solve_table_call};
 use std::test::*;
 
 /// No arc is where this number is.
-const GAP: i64 = -7;
+pub(crate) const GAP: i64 = -7;
 
 /// What is between rows, and would be refused among the entries.
 const UNSEEN: i64 = i64::MIN;
@@ -21,26 +22,37 @@ const NOTHING: Found = Found {
 };
 
 /// Two persons and three objects, with a place between their rows: the least cost is 3.
-const TABLE: [i64; 7] = [1, 2, GAP, UNSEEN, 1, 4, 9];
+pub(crate) const TABLE: [i64; 7] = [1, 2, GAP, UNSEEN, 1, 4, 9];
 
 /// What a solve of two persons has returned, and what is in the caller's memory then.
-#[derive(Clone, Copy)]
-struct Behind {
-    status: i32,
-    choice: [u32; 2],
-    prices: [i64; 3],
-    objects: [u32; 2],
-    found: Found,
+#[derive(Clone, Copy, Debug, PartialEq)]
+pub(crate) struct Behind {
+    pub(crate) status: i32,
+    pub(crate) choice: [u32; 2],
+    pub(crate) prices: [i64; 3],
+    pub(crate) objects: [u32; 2],
+    pub(crate) found: Found,
 }
 
 /// Solves a table of two persons and three objects.
-fn solved(
+pub(crate) fn solved(
     rt: &HostRuntime,
     costs: &[i64],
     stride: usize,
     gap: i64,
     start: &[i64],
     bids: u64,
+) -> Behind {
+    solved_under(rt, costs, stride, gap, &mut run_of(start, bids))
+}
+
+/// The same by this run.
+pub(crate) fn solved_under<W: Watch>(
+    rt: &HostRuntime,
+    costs: &[i64],
+    stride: usize,
+    gap: i64,
+    run: &mut Run<'_, W>,
 ) -> Behind {
     let (mut choice, mut prices, mut objects, mut found) = ([7; 2], [7; 3], [7; 2], NOTHING);
     let given = GivenTable {
@@ -53,7 +65,7 @@ fn solved(
     let status = solve_table_call(
         rt.alloc(),
         &given,
-        &Run { start, bids },
+        run,
         &mut choice,
         &mut prices,
         &mut objects,

@@ -2,11 +2,13 @@
 //!
 //! Each export takes what a C program holds: numbers, references to `#[repr(C)]` structs, and slices as a pointer and a
 //! length. What a call answers is a status; the rest goes out through `&mut`. No call keeps anything after its return.
-//! What the caller owes is at the top of `c/sigdorf.h`.
+//! What the caller owes is at the top of `c/sigdorf.h`. The watch of a call is in `watch.rt`.
 #![tactic(auto)]
 
-ghost use Rattle.std.specs.Prelude.{◌≡◌, ◌≢◌, length, pos};
+ghost use Rattle.std.specs.Prelude.{◌≡◌, ◌≢◌, ◌==◌, ◌⊎◌, length, not, pos};
 ghost use Rattle.auc_graph.specs.InMemory.{problem_from};
+ghost use Rattle.auc_call.specs.Codes.{stop_kind};
+ghost use Rattle.auc_call.specs.Drivers.{WasAsked};
 ghost use Rattle.auc_call.specs.Memory.{memory};
 ghost use Rattle.auc_call.specs.Start.{start_fault, start_fault_by_messages};
 ghost use Rattle.auc_call.specs.Limited.{IsLimitTold};
@@ -16,12 +18,15 @@ ghost use Rattle.auc_dense.specs.Naming.{ByObjects};
 ghost use Rattle.auc_dense.specs.Table.{table_problem};
 ghost use Rattle.auc_dense.specs.Told.{IsTableTold};
 
+mod watch;
+
 use auc_call::{
-    Found, GivenArcs, Run, check_call, check_hall_call, solve_by_messages_call, solve_call,
+    Found, GivenArcs, Onward, Run, check_call, check_hall_call, solve_by_messages_call, solve_call,
 };
 use auc_dense::{GivenTable, solve_table_call};
 use auc_graph::Arc;
 use std::alloc::Global;
+pub use watch::Watching;
 
 /// Solves directly the problem of so many persons, so many objects (0: as many as persons) and these arcs, from nothing
 /// where `start` is empty, else from its prices: see [`auc_call::solve_call`].
@@ -54,12 +59,62 @@ pub extern "C" fn sigdorf_solve(
     solve_call(
         alloc,
         &given,
-        &Run { start, bids },
+        &mut Run {
+            start,
+            bids,
+            watch: Onward,
+        },
         choice,
         prices,
         hall_objects,
         found,
     )
+}
+
+/// Solves as [`sigdorf_solve`] does, under a watch, which is asked as [`auc_call::solve_call`] says. After its no,
+/// `watch.stopped` is 1, and the status is that of a bracket with the kind of a limit on bids, or that there is no
+/// assignment: clause `limit`. Clause `asked` says when `watch.asked` may be 0.
+#[unsafe(no_mangle)]
+pub extern "C" fn sigdorf_solve_watched(
+    alloc: Global,
+    persons: u32,
+    objects: u32,
+    arcs: &[Arc],
+    start: &[i64],
+    bids: u64,
+    watch: &mut Watching,
+    choice: &mut [u32],
+    prices: &mut [i64],
+    hall_objects: &mut [u32],
+    found: &mut Found,
+) -> i32
+    ensures told { IsListTold (problem_from persons objects arcs.now)
+        (start_fault (problem_from persons objects arcs.now) start.now) result
+        (memory choice.old prices.old hall_objects.old) (memory choice.new prices.new hall_objects.new)
+        found.old found.new }
+    ensures limit { result ≡ pos 4
+        → ((watch.new.stopped ≡ 1) × (found.new.kind ≡ stop_kind))
+        ⊎ IsLimitTold (problem_from persons objects arcs.now) start.now bids
+        choice.new prices.new found.new.kind found.new.lower found.new.cost }
+    ensures asked { (result ≡ pos 0) ⊎ (result ≡ pos 4)
+        → WasAsked (not (watch.new.asked == 0)) (problem_from persons objects arcs.now) }
+    ensures stopped { (watch.new.stopped ≡ 0) ⊎ (watch.new.stopped ≡ 1) }
+    ensures kept { (watch.new.until ≡ watch.old.until) × (watch.new.stop ≡ watch.old.stop)
+        × (watch.new.progress ≡ watch.old.progress) }
+{
+    let given = GivenArcs {
+        persons,
+        objects,
+        arcs,
+    };
+    let mut run = Run {
+        start,
+        bids,
+        watch: watch.begin(),
+    };
+    let status = solve_call(alloc, &given, &mut run, choice, prices, hall_objects, found);
+    watch.end(&run.watch);
+    status
 }
 
 /// Solves as [`sigdorf_solve`] does, but the problem of a table, where an entry that equals `none` is no arc, and with
@@ -98,12 +153,64 @@ pub extern "C" fn sigdorf_solve_dense(
     solve_table_call(
         alloc,
         &given,
-        &Run { start, bids },
+        &mut Run {
+            start,
+            bids,
+            watch: Onward,
+        },
         choice,
         prices,
         hall_objects,
         found,
     )
+}
+
+/// Solves as [`sigdorf_solve_dense`] does, under a watch, as [`sigdorf_solve_watched`] does: it is asked as
+/// [`auc_dense::solve_table_call`] says.
+#[unsafe(no_mangle)]
+pub extern "C" fn sigdorf_solve_dense_watched(
+    alloc: Global,
+    persons: u32,
+    objects: u32,
+    costs: &[i64],
+    stride: usize,
+    none: i64,
+    start: &[i64],
+    bids: u64,
+    watch: &mut Watching,
+    choice: &mut [u32],
+    prices: &mut [i64],
+    hall_objects: &mut [u32],
+    found: &mut Found,
+) -> i32
+    ensures told { IsTableTold (table_problem persons objects costs.now stride none) stride (length costs.now)
+        (start_fault (table_problem persons objects costs.now stride none) start.now) result
+        (memory choice.old prices.old hall_objects.old) (memory choice.new prices.new hall_objects.new)
+        found.old found.new }
+    ensures limit { result ≡ pos 4
+        → ((watch.new.stopped ≡ 1) × (found.new.kind ≡ stop_kind))
+        ⊎ ByObjects (table_problem persons objects costs.now stride none).arcs choice.new
+        (λ places. IsLimitTold (table_problem persons objects costs.now stride none) start.now bids
+        places prices.new found.new.kind found.new.lower found.new.cost) }
+    ensures stopped { (watch.new.stopped ≡ 0) ⊎ (watch.new.stopped ≡ 1) }
+    ensures kept { (watch.new.until ≡ watch.old.until) × (watch.new.stop ≡ watch.old.stop)
+        × (watch.new.progress ≡ watch.old.progress) }
+{
+    let given = GivenTable {
+        persons,
+        objects,
+        costs,
+        stride,
+        gap: none,
+    };
+    let mut run = Run {
+        start,
+        bids,
+        watch: watch.begin(),
+    };
+    let status = solve_table_call(alloc, &given, &mut run, choice, prices, hall_objects, found);
+    watch.end(&run.watch);
+    status
 }
 
 /// Solves as [`sigdorf_solve`] does, but by messages: see [`auc_call::solve_by_messages_call`].
@@ -136,7 +243,11 @@ pub extern "C" fn sigdorf_solve_by_messages(
     solve_by_messages_call(
         alloc,
         &given,
-        &Run { start, bids },
+        &mut Run {
+            start,
+            bids,
+            watch: Onward,
+        },
         choice,
         prices,
         hall_objects,

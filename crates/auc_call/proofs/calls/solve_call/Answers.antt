@@ -8,12 +8,13 @@ use Rattle.auc_call.specs.Memory.{memory}
 use Rattle.auc_call.specs.Start.{start_fault_by}
 use Rattle.auc_call.specs.Telling.{solve_status}
 use Rattle.auc_call.specs.Told.{IsListTold}
-use Rattle.auc_call.proofs.DriverLaws.{told_by}
+use Rattle.auc_call.proofs.DriverLaws.{asked_of, told_by}
+use Rattle.auc_call.proofs.LimitedLaws.{told_asked}
 use Rattle.auc_call.proofs.ToldLaws.{told}
 use Rattle.auc_call.proofs.calls.solve_call.Goals as goal
 
 pub returns-clause-told : goal.returns-clause-told
-returns-clause-told c =
+returns-clause-told g c =
     let fits : FitsSigned w32 c.tell_solved.result = search rules in
     let p = listed_problem c.args.given.now in
     let unfit = start_fault_by Direct p c.args.run.now.start.now in
@@ -25,6 +26,13 @@ returns-clause-told c =
     (subst (λ (f : Found). IsListTold p unfit (solve_status solved) before after c.args.found.now f) (sym c.tell_solved.ensures.found) right))
 
 pub returns-clause-limit : goal.returns-clause-limit
-returns-clause-limit c =
+returns-clause-limit g c =
     let fits : FitsSigned w32 c.tell_solved.result = search rules in
-    simp to_z-of_z (told_by Direct (listed_problem c.args.given.now) c.args.run.now.start.now c.args.run.now.bids (memory c.solve_into-solved.new.choice c.solve_into-solved.new.prices c.solve_into-solved.new.set) c.solve_into-solved.result c.tell_solved.result c.args.found.now c.tell_solved.new.found c.solve_into-solved.ensures.run c.tell_solved.ensures.status c.tell_solved.ensures.found)
+    simp to_z-of_z (told_by Direct (listed_problem c.args.given.now) c.args.run.now.start.now c.args.run.now.bids (g.W.Watch.has_stopped c.solve_into-solved.new.run.watch) (g.W.Watch.was_asked c.solve_into-solved.new.run.watch) (memory c.solve_into-solved.new.choice c.solve_into-solved.new.prices c.solve_into-solved.new.set) c.solve_into-solved.result c.tell_solved.result c.args.found.now c.tell_solved.new.found c.solve_into-solved.ensures.run c.tell_solved.ensures.status c.tell_solved.ensures.found)
+
+pub returns-clause-asked : goal.returns-clause-asked
+returns-clause-asked g c =
+    let fits : FitsSigned w32 c.tell_solved.result = search rules in
+    let p = listed_problem c.args.given.now in
+    let asked = g.W.Watch.was_asked c.solve_into-solved.new.run.watch in
+    simp to_z-of_z (told_asked p asked c.solve_into-solved.result c.tell_solved.result (asked_of p c.args.run.now.start.now c.args.run.now.bids (g.W.Watch.has_stopped c.solve_into-solved.new.run.watch) asked (memory c.solve_into-solved.new.choice c.solve_into-solved.new.prices c.solve_into-solved.new.set) c.solve_into-solved.result c.solve_into-solved.ensures.run) c.tell_solved.ensures.status)

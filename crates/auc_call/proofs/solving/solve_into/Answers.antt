@@ -11,7 +11,7 @@ use Rattle.auc_call.proofs.SolvingLaws.{runs_solves}
 use Rattle.auc_call.proofs.solving.solve_into.Goals as goal
 
 pub solve_problem-requires : goal.solve_problem-requires
-solve_problem-requires c =
+solve_problem-requires g c =
     let e = made_of c.args.given.now.persons c.args.given.now.objects c.in_ok-problem.problem c.in_ok-arcs.arcs.items c.args.given.now.arcs.now c.in_ok-problem.ensures.exact c.in_ok-arcs.ensures.items in
     let wanted : c.objects_or-wanted.result ≡ objects_or c.args.given.now.objects c.args.given.now.persons = c.objects_or-wanted.ensures in
     let sizes : AreSizes (problem_from c.args.given.now.persons c.args.given.now.objects c.args.given.now.arcs.now) (memory c.args.choice.now c.args.prices.now c.args.set.now) = record {
@@ -22,7 +22,7 @@ solve_problem-requires c =
     record { sizes = subst (λ (p : Problem). AreSizes p (memory c.args.choice.now c.args.prices.now c.args.set.now)) (sym e) sizes }
 
 pub returns-clause-solves : goal.returns-clause-solves
-returns-clause-solves c =
+returns-clause-solves g c =
     let e = made_of c.args.given.now.persons c.args.given.now.objects c.in_ok-problem.problem c.in_ok-arcs.arcs.items c.args.given.now.arcs.now c.in_ok-problem.ensures.exact c.in_ok-arcs.ensures.items in
     let wanted : c.objects_or-wanted.result ≡ objects_or c.args.given.now.objects c.args.given.now.persons = c.objects_or-wanted.ensures in
     let sizes : AreSizes (problem_from c.args.given.now.persons c.args.given.now.objects c.args.given.now.arcs.now) (memory c.args.choice.now c.args.prices.now c.args.set.now) = record {
@@ -35,6 +35,6 @@ returns-clause-solves c =
     (subst (λ (p : Problem). Runs c.args.driver p c.args.run.now.start.now (memory c.args.choice.now c.args.prices.now c.args.set.now) (memory c.solve_problem.new.choice c.solve_problem.new.prices c.solve_problem.new.set) c.solve_problem.result) e c.solve_problem.ensures.runs)
 
 pub returns-clause-run : goal.returns-clause-run
-returns-clause-run c =
+returns-clause-run g c =
     let e = made_of c.args.given.now.persons c.args.given.now.objects c.in_ok-problem.problem c.in_ok-arcs.arcs.items c.args.given.now.arcs.now c.in_ok-problem.ensures.exact c.in_ok-arcs.ensures.items in
-    subst (λ (p : Problem). IfOk c.solve_problem.result (IsSolvedBy c.args.driver p c.args.run.now.start.now c.args.run.now.bids (memory c.solve_problem.new.choice c.solve_problem.new.prices c.solve_problem.new.set))) e c.solve_problem.ensures.run
+    subst (λ (p : Problem). IfOk c.solve_problem.result (IsSolvedBy c.args.driver p c.args.run.now.start.now c.args.run.now.bids (g.W.Watch.has_stopped c.solve_problem.new.run.watch) (g.W.Watch.was_asked c.solve_problem.new.run.watch) (memory c.solve_problem.new.choice c.solve_problem.new.prices c.solve_problem.new.set))) e c.solve_problem.ensures.run

@@ -14,7 +14,7 @@ use Rattle.auc_dense.proofs.ShownLaws.{shown_least}
 use Rattle.auc_dense.proofs.quick.solve_quickly.Goals as goal
 
 pub put_prices-requires-clause-plain : goal.put_prices-requires-clause-plain
-put_prices-requires-clause-plain c =
+put_prices-requires-clause-plain g c =
     let gap_fits : FitsSigned w64 c.args.gap = c.ranges.gap in
     let scale_fits : FitsSigned w64 c.scale_of-scale.result = search rules in
     let told = rw c.in-Some-2.is at c.in_ok-picks.ensures in
@@ -23,7 +23,7 @@ put_prices-requires-clause-plain c =
     (subst (λ (xs : List ℤ). All (IsPlainPrice (pos (c.args.table.now.persons + 1))) xs) (sym c.as_slice-3.ensures.value) show.fair))
 
 pub returns-clause-quick : goal.returns-clause-quick
-returns-clause-quick c =
+returns-clause-quick g c =
     let gap_fits : FitsSigned w64 c.args.gap = c.ranges.gap in
     let scale_fits : FitsSigned w64 c.scale_of-scale.result = search rules in
     let cost_fits : FitsSigned w64 c.in-Ok.cost = search rules in

@@ -155,7 +155,7 @@ static void lift_gap(job *w, int64_t lower) {
     if (gates <= 0) return;
     /* In a unit in which all of it is below 2^62. */
     int exponent, unit = w->unit;
-    frexp(fmax(fabs(w->gate), fabs(w->floor)), &exponent);
+    frexp(fabs(w->gate) > fabs(w->floor) ? w->gate : w->floor, &exponent);
     if (unit > 59 - exponent - bits_in((size_t)gates)) unit = 59 - exponent - bits_in((size_t)gates);
     double more = ldexp(w->gate, unit) - ldexp((double)(w->least + w->gate_cost), unit - w->unit);
     int down = w->unit - unit;

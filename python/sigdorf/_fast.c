@@ -64,12 +64,14 @@ typedef struct {
     int held, can_run, is_found;
 } task;
 
-/* A watch of (when it ends a search, a descriptor that ends it, one for progress), as sigdorf.h has them, or none: 0
- * where it is one of these. */
-static int take_watch_of(PyObject *given, sigdorf_watch *own, sigdorf_watch **watch) {
+/* The last of a call's arguments, which may be left out: a watch of (when it ends a search, a descriptor that ends it,
+ * one for progress), as sigdorf.h has them, or None. 1 where there is something else, or where arguments are missing. */
+static int take_watch_of(PyObject *const *arguments, Py_ssize_t count, Py_ssize_t place, sigdorf_watch *own,
+                         sigdorf_watch **watch) {
     *watch = NULL;
-    if (given == Py_None) return 0;
-    if (!PyTuple_Check(given) || PyTuple_Size(given) != 3) return 1;
+    if (count == place || (count == place + 1 && arguments[place] == Py_None)) return 0;
+    if (count != place + 1 || !PyTuple_Check(arguments[place]) || PyTuple_Size(arguments[place]) != 3) return 1;
+    PyObject *given = arguments[place];
     *own = (sigdorf_watch){.until = PyLong_AsLongLong(PyTuple_GetItem(given, 0)),
                            .stop = (int32_t)PyLong_AsLong(PyTuple_GetItem(given, 1)),
                            .progress = (int32_t)PyLong_AsLong(PyTuple_GetItem(given, 2))};
@@ -390,8 +392,8 @@ static PyObject *slices_of_all(const task *tasks, Py_ssize_t number) {
 static PyObject *found(PyObject *module, PyObject *const *arguments, Py_ssize_t count) {
     (void)module;
     sigdorf_watch own, *watch;
-    if (count != 7 || !(arguments[1] == Py_True || arguments[1] == Py_False) ||
-        !(arguments[2] == Py_True || arguments[2] == Py_False) || take_watch_of(arguments[6], &own, &watch)) {
+    if (take_watch_of(arguments, count, 6, &own, &watch) || !(arguments[1] == Py_True || arguments[1] == Py_False) ||
+        !(arguments[2] == Py_True || arguments[2] == Py_False)) {
         PyErr_SetString(PyExc_TypeError,
                         "a problem, True or False, True or False, a limit, a start, bids and a watch are wanted");
         return NULL;
@@ -450,8 +452,8 @@ static PyObject *found_each(PyObject *problems, PyObject *limits, int maximize, 
 static PyObject *found_all(PyObject *module, PyObject *const *arguments, Py_ssize_t count) {
     (void)module;
     sigdorf_watch own, *watch;
-    if (count != 3 || !PyList_Check(arguments[0]) || !(arguments[1] == Py_True || arguments[1] == Py_False) ||
-        take_watch_of(arguments[2], &own, &watch)) {
+    if (take_watch_of(arguments, count, 2, &own, &watch) || !PyList_Check(arguments[0]) ||
+        !(arguments[1] == Py_True || arguments[1] == Py_False)) {
         PyErr_SetString(PyExc_TypeError, "a list of tables, True or False, and a watch are wanted");
         return NULL;
     }
@@ -465,8 +467,8 @@ static PyObject *found_all(PyObject *module, PyObject *const *arguments, Py_ssiz
 static PyObject *matched_all(PyObject *module, PyObject *const *arguments, Py_ssize_t count) {
     (void)module;
     sigdorf_watch own, *watch;
-    if (count != 5 || !PyList_Check(arguments[0]) || !PyList_Check(arguments[1]) ||
-        !(arguments[2] == Py_True || arguments[2] == Py_False) || take_watch_of(arguments[4], &own, &watch)) {
+    if (take_watch_of(arguments, count, 4, &own, &watch) || !PyList_Check(arguments[0]) ||
+        !PyList_Check(arguments[1]) || !(arguments[2] == Py_True || arguments[2] == Py_False)) {
         PyErr_SetString(PyExc_TypeError, "a list of problems, one of limits, True or False, bids and a watch are wanted");
         return NULL;
     }
@@ -504,11 +506,11 @@ static PyMethodDef methods[] = {
     METHOD(bind, "bind(dense, arcs): the addresses of the library's sigdorf_solve_dense_watched and sigdorf_solve_watched."),
     METHOD(
         found,
-        "found(problem, maximize, wants_prices, limit, start, bids, watch): the pairs of a least assignment, or the parts of a solution, or None."),
+        "found(problem, maximize, wants_prices, limit, start, bids, watch=None): the pairs of a least assignment, or the parts of a solution, or None."),
     METHOD(found_all,
-           "found_all(tables, maximize, watch): the parts of the solution of each, or None, with the lock given up once."),
+           "found_all(tables, maximize, watch=None): the parts of the solution of each, or None, with the lock given up once."),
     METHOD(matched_all,
-           "matched_all(problems, limits, maximize, bids, watch): the pairs of each under its limit, or None; with the lock given up once."),
+           "matched_all(problems, limits, maximize, bids, watch=None): the pairs of each under its limit, or None; with the lock given up once."),
     {NULL, NULL, 0, NULL},
 };
 

@@ -83,7 +83,7 @@ def found(problem, maximize, wants_prices, limit=None, start=None, bids=USUAL_BI
         return None
     is_short = problem[2].size < FEWEST_LISTED if type(problem) is tuple else problem.size < FEWEST
     if is_short and watch is None:
-        return _extension.found(problem, maximize, wants_prices, limit, start, bids, None)
+        return _extension.found(problem, maximize, wants_prices, limit, start, bids)
     return call_waiting(True, watch, _extension.found, problem, maximize, wants_prices, limit, start, bids)
 
 

@@ -2,12 +2,12 @@
 import math
 import os
 import threading
-import time
 
 from .arguments import attempt
 from .progress import Progress
 
-NANOSECONDS, LATEST = 10**9, 2**63 - 1
+# The most that are added to a time; the clock is far below this.
+NANOSECONDS, MOST_NANOSECONDS = 10**9, 2**62
 
 
 def seconds_of(value):
@@ -24,7 +24,7 @@ class Watch:
     """When searches are to end, by :func:`time.monotonic_ns`, or 0; what ends them before; and whom they tell how far they are, or None."""
 
     def __init__(self, seconds=math.inf, progress=None, began=0):
-        self._until = 0 if math.isinf(seconds) else min(began + int(seconds * NANOSECONDS), LATEST)
+        self._until = 0 if math.isinf(seconds) else began + int(min(seconds * NANOSECONDS, MOST_NANOSECONDS))
         self.progress, self._stop = progress, None
 
     def stopping(self):
@@ -84,7 +84,13 @@ def call_waiting(is_long, watch, call, *arguments):
 
 
 def _in_thread(watch, call, arguments):
-    stop, records = watch.stopping(), Pipe() if watch.progress else None
+    try:
+        stop, records = watch.stopping(), Pipe() if watch.progress else None
+    except OSError:
+        # No descriptor is left: the call doesn't want any, and ends where it ends.
+        if watch.progress:
+            raise
+        return call(*arguments, watch.words())
     done, answers = threading.Event(), []
     given = call, (*arguments, watch.words(records)), answers, done, stop, records
     thread = threading.Thread(target=_run, args=given, name="sigdorf", daemon=True)

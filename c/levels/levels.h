@@ -45,7 +45,7 @@ typedef struct {
     char type;    /* d, q or Q, as Python's struct module has it */
     int has_limit, wants_prices, takes_gap; /* whether an answer may have a gap */
     int is_kept; /* a table that nobody writes while the call runs */
-    /* What ends all searches together, or NULL. What it has for progress gets a `scale` before the records of a search. */
+    /* What ends all searches together, or NULL. Its `progress` gets a `scale` before the records of a search. */
     sigdorf_watch *watch;
 } question;
 

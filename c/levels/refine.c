@@ -569,8 +569,8 @@ static int keep_change(job *w, const level *l, const nearby *r) {
     return 0;
 }
 
-/* Takes levels until the choices are the least: 0, or a status. Where a limit has ended a round, the choices of the level
- * before it may be answered: whoever has a better arc gains less than a unit by it. */
+/* Takes levels until the choices are the least: 0, or a status. Where a limit has ended a round, the choices of the
+ * level before it may be answered: whoever has a better arc gains less than a unit by it. */
 static int settle(job *w, level *l, nearby *r) {
     while (!l->is_settled) {
         int unit = l->unit;

@@ -146,8 +146,8 @@ static int are_entries(job *w) {
 }
 
 /* Makes the gap of a search with a gate one of the costs as they are, rounded up, where the choice may have more gates
- * than another assignment. All that is no gate costs less than half of one together, so a bound of all whole costs tells
- * the fewest gates. */
+ * than another assignment. All that is no gate costs less than half of one together, so a bound of all whole costs
+ * tells the fewest gates. */
 static void lift_gap(job *w, int64_t lower) {
     int64_t gates = 0, less = lower - w->gate_cost / 2;
     for (size_t i = 0; i < w->persons; i++) gates += whole_at(w, w->choice[i]) == w->gate_cost;

@@ -272,8 +272,8 @@ typedef struct {
 } scale;
 enum { SCALE = 2, HAS_TAILS = 1, IS_SMALL = 2, IS_WHOLE = 4, IS_UNSIGNED = 8 };
 
-/* A watch for one search of a job; one without limits and descriptors where the job has none. Only a search by all costs
- * tells of progress: the rounds after it change less than a unit for each person. */
+/* A watch for one search of a job; one without limits and descriptors where the job has none. Only a search by all
+ * costs tells of progress: the rounds after it change less than a unit for each person. */
 sigdorf_watch watch_of(const job *w, int tells);
 /* Takes what a search has written to its watch. */
 void take_watch(job *w, const sigdorf_watch *own);

@@ -81,10 +81,10 @@ def found(problem, maximize, wants_prices, limit=None, start=None, bids=USUAL_BI
     """
     if _extension is None:
         return None
-    is_short = problem[2].size < FEWEST_LISTED if type(problem) is tuple else problem.size < FEWEST
-    if is_short and watch is None:
+    is_long = problem[2].size >= FEWEST_LISTED if type(problem) is tuple else problem.size >= FEWEST
+    if not is_long and watch is None:
         return _extension.found(problem, maximize, wants_prices, limit, start, bids)
-    return call_waiting(True, watch, _extension.found, problem, maximize, wants_prices, limit, start, bids)
+    return call_waiting(is_long, watch, _extension.found, problem, maximize, wants_prices, limit, start, bids)
 
 
 def found_under_limits(tables, limits, maximize, bids):

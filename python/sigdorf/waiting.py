@@ -74,11 +74,10 @@ def call_waiting(is_long, watch, call, *arguments):
     """What a call of the library answers. Its last argument is what it is watched by: when it ends, and descriptors, or None.
 
     KeyboardInterrupt is raised in the main thread alone, and not within a call of C. So a long call from there is made by another thread, while
-    this one waits. Whatever is raised meanwhile ends the search, and then goes on to the caller.
+    this one waits, and so is one that has whom to tell. Whatever is raised meanwhile ends the search, and then goes on to the caller.
     """
     tells = watch is not None and watch.progress is not None
-    may_wait = is_long or watch is not None
-    if tells or may_wait and threading.current_thread() is threading.main_thread():
+    if tells or is_long and threading.current_thread() is threading.main_thread():
         return _in_thread(watch or Watch(), call, arguments)
     return call(*arguments, None if watch is None else watch.words())
 

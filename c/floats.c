@@ -134,7 +134,7 @@ int32_t sigdorf_solve_dense_f64_watched(uint32_t persons, uint32_t objects, cons
     sigdorf_watch own = {watch->until, watch->stop, -1, 0, 0};
     int32_t status = solve_dense(persons, objects, costs, costs_len, stride, bids, &own, choice, choice_len,
                                  hall_objects, hall_objects_len, found);
-    if (status != SIGDORF_SIZES) watch->stopped = own.stopped, watch->asked = own.asked;
+    watch->stopped = own.stopped, watch->asked = own.asked;
     return status;
 }
 

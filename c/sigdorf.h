@@ -194,8 +194,8 @@ int32_t sigdorf_solve_dense(uint32_t persons, uint32_t objects, const int64_t *c
 
 /* As sigdorf_solve and sigdorf_solve_dense, under a watch. Where it has ended the search, watch->stopped is 1, and the status is
  * SIGDORF_BRACKET with the kind SIGDORF_BIDS, or the one that the search had come to anyway. Else watch->stopped is 0, and all is as
- * without a watch. So it is where the watch has no limit and no descriptors. `stopped` and `asked` are written whatever the status, but for
- * SIGDORF_SIZES. */
+ * without a watch. So it is where the watch has no limit and no descriptors. `stopped` and `asked` are written whatever the status. What ends
+ * before some million arcs or entries are looked at may come to its end under a time that has passed. */
 int32_t sigdorf_solve_watched(uint32_t persons, uint32_t objects, const sigdorf_arc *arcs, size_t arcs_len, const int64_t *start,
                               size_t start_len, uint64_t bids, sigdorf_watch *watch, uint32_t *choice, size_t choice_len, int64_t *prices,
                               size_t prices_len, uint32_t *hall_objects, size_t hall_objects_len, sigdorf_found *found);

@@ -409,16 +409,17 @@ static PyObject *found(PyObject *module, PyObject *const *arguments, Py_ssize_t 
     return answer;
 }
 
-/* Begins a task of each problem, with its limit if there are limits: how many entries those have that can be run. */
+/* Begins a task of each problem, with its limit if there are limits: how many entries those have that can be run. A
+ * watch is of those that aren't small: to look at it would count beside the others, of which a call has some dozens. */
 static size_t begin_all(task *tasks, Py_ssize_t number, workshop *shop, PyObject *problems, PyObject *limits,
                         int maximize, PyObject *bids, sigdorf_watch *watch) {
     size_t entries = 0;
     for (Py_ssize_t k = 0; k < number; k++) {
         PyObject *const more[3] = {limits ? PyTuple_GetItem(limits, k) : NULL, Py_None, bids};
         tasks[k].w.q.wants_prices = !limits;
-        tasks[k].w.q.watch = watch;
         tasks[k].can_run = !begin(&tasks[k], shop, PyTuple_GetItem(problems, k), maximize, limits ? more : NULL);
         if (tasks[k].can_run) entries += tasks[k].w.q.count;
+        if (tasks[k].w.q.count >= FEWEST) tasks[k].w.q.watch = watch;
         PyErr_Clear();
     }
     return entries;

@@ -129,8 +129,17 @@ class Told(Limited):
             told, solution = self.told(*given)
             with self.subTest(given=len(given), kind=type(given[0])):
                 self.assertTrue(solution.is_optimal)
-                self.assertGreater(len(told), 1)
                 self.assert_told(told, solution, solution.cost)
+
+    def test_phases(self):
+        """Phases of a sparse problem tell of what they leave."""
+        random, side = numpy.random.default_rng(2), 5_000
+        rows, own = numpy.repeat(numpy.arange(side), 8), numpy.arange(side)
+        lists = numpy.append(rows, own), numpy.append(random.integers(0, side, len(rows)), random.permutation(side))
+        for costs in (random.integers(0, 10**6, len(lists[0])), random.random(len(lists[0]))):
+            told, solution = self.told(*lists, costs)
+            self.assertGreater(len(told), 2)
+            self.assert_told(told, solution, solution.cost)
 
     def test_kinds(self):
         """Of any costs, turned or not, with gaps and gates."""

@@ -257,14 +257,14 @@ static void ends_nothing(int count) {
 
 static void doubles_end_nothing(void) {
     sigdorf_watch watch = NONE_AT_ALL;
-    enum { SOME = 300 };
-    for (uint32_t e = 0; e < SOME * SOME; e++) floats[e] = below(1u << 30) / 3.0;
-    int32_t wanted = sigdorf_solve_dense_f64(SOME, SOME, floats, SOME * SOME, SOME, SIGDORF_USUAL_BIDS, other_choice, SOME, hall, SOME,
+    const uint32_t side = 300;
+    for (uint32_t e = 0; e < side * side; e++) floats[e] = below(1u << 30) / 3.0;
+    int32_t wanted = sigdorf_solve_dense_f64(side, side, floats, side * side, side, SIGDORF_USUAL_BIDS, other_choice, side, hall, side,
                                              &found_f64);
     double cost = found_f64.cost;
-    want("doubles", solve_floats(SOME, &watch), wanted);
+    want("doubles", solve_floats(side, &watch), wanted);
     want("doubles, cost", found_f64.cost == cost, 1);
-    want("doubles, pairs", memcmp(choice, other_choice, SOME * sizeof *choice), 0);
+    want("doubles, pairs", memcmp(choice, other_choice, side * sizeof *choice), 0);
     want("doubles, not stopped", watch.stopped, 0);
     watch.stopped = 7;
     want("doubles of another size", sigdorf_solve_dense_f64_watched(2, 2, floats, 3, 2, 0, &watch, choice, 2, hall, 2, &found_f64),

@@ -5,7 +5,7 @@
 #include <stdlib.h>
 #include <unistd.h>
 
-enum { SIDE = 2000 };
+enum { SIDE = 3000 };
 
 static int64_t *costs, *prices, no_start[1];
 static uint32_t *choice, *hall_objects;

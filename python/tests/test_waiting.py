@@ -22,7 +22,7 @@ LATE = 0.3
 
 
 def products(side):
-    """A table that takes seconds, since all want the same columns, and its least cost: the dearest row takes the cheapest column."""
+    """A table that takes long, since all want the same columns, and its least cost: the dearest row takes the cheapest column."""
     ours, theirs = (numpy.sort(numpy.random.default_rng(seed).integers(1, 31_000, side)) for seed in (1, 2))
     return numpy.outer(ours, theirs), int((ours * theirs[::-1]).sum())
 
@@ -46,7 +46,7 @@ class Seconds(Limited):
             first = time.monotonic()
             sigdorf.solve(*given, seconds=0)
             first = time.monotonic() - first
-            for seconds in (0.1, 0.4):
+            for seconds in (0.05, 0.3):
                 began = time.monotonic()
                 solution = sigdorf.solve(*given, seconds=seconds)
                 took = time.monotonic() - began
@@ -296,7 +296,7 @@ class Interrupted(Limited):
         for call in self.CALLS:
             child = subprocess.Popen([sys.executable, "-B", "-c", INTERRUPTED, call], stdout=subprocess.PIPE, text=True)
             self.assertEqual(child.stdout.readline(), "begun\n")
-            time.sleep(0.4)
+            time.sleep(0.15)
             sent = time.monotonic()
             child.send_signal(signal.SIGINT)
             told = child.communicate(timeout=30)[0].split()

@@ -8,6 +8,8 @@ from .progress import Progress
 
 # The most that are added to a time; the clock is far below this.
 NANOSECONDS, MOST_NANOSECONDS = 10**9, 2**62
+# So many seconds at most it takes a thread to begin.
+MOMENT = 1
 
 
 def seconds_of(value):
@@ -100,7 +102,8 @@ def _in_thread(watch, call, arguments):
         done.wait()
     except BaseException:
         stop.write()
-        if thread.is_alive():
+        # Whether it has begun isn't seen for a moment.
+        if done.wait(None if thread.ident else MOMENT):
             thread.join()
         raise
     answer, fault = answers.pop()

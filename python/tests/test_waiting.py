@@ -138,7 +138,7 @@ class Told(Limited):
         lists = numpy.append(rows, own), numpy.append(random.integers(0, side, len(rows)), random.permutation(side))
         for costs in (random.integers(0, 10**6, len(lists[0])), random.random(len(lists[0]))):
             told, solution = self.told(*lists, costs)
-            self.assertGreater(len(told), 2)
+            self.assertGreater(len(told), 1)
             self.assert_told(told, solution, solution.cost)
 
     def test_kinds(self):

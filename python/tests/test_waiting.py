@@ -40,13 +40,13 @@ def forms(table):
 class Seconds(Limited):
     def test_ends_in_time(self):
         """An answer is an assignment, and the least cost is between its bound and its cost."""
-        table, least = products(2_000)
+        table, least = products(1_500)
         for given in forms(table):
             # What reading the entries and finding any assignment takes.
             first = time.monotonic()
             sigdorf.solve(*given, seconds=0)
             first = time.monotonic() - first
-            for seconds in (0.05, 0.3):
+            for seconds in (0.05, 0.2):
                 began = time.monotonic()
                 solution = sigdorf.solve(*given, seconds=seconds)
                 took = time.monotonic() - began

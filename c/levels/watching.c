@@ -51,6 +51,11 @@ static int has_word(int stop) {
     return poll(&one, 1, 0) > 0;
 }
 
+int is_late(const job *w) {
+    const sigdorf_watch *watch = w->q.watch;
+    return watch && watch->stopped && watch->until && !(watch->stop >= 0 && has_word(watch->stop));
+}
+
 int is_over(job *w) {
     sigdorf_watch *watch = w->q.watch;
     if (!watch) return 0;

@@ -8,8 +8,9 @@
 #define TURNS 4
 #define LOOKS 5
 
-/* By persons an object, by objects a person, or NOBODY. Reduced costs are costs less `worth`, which is below 0 or 0 where
- * there are more objects than persons, so that they bound all assignments. */
+/* By persons an object, by objects a person, or NOBODY. Reduced costs are costs less `worth`, which is below 0 or 0
+ * where there are more objects than persons, so that they bound all assignments. The steps are the first ones of R.
+ * Jonker and A. Volgenant (Computing 38, 1987). */
 typedef struct {
     size_t persons, width, left, looks;
     const int64_t *costs;
@@ -62,8 +63,8 @@ static int64_t two_best(const hasty *h, size_t person, uint32_t *first, uint32_t
     return next - least;
 }
 
-/* Gives a person the best object, whose worth falls so that it is as good as the second. Who had it is the next, where it
- * was better, and else one of those left for later. */
+/* Gives a person the best object, whose worth falls so that it is as good as the second. Who had it is the next, where
+ * it was better, and else one of those left for later. */
 static size_t take_best(hasty *h, size_t next) {
     uint32_t person = h->free[next], first = 0, second = 0;
     int64_t better = two_best(h, person, &first, &second);
@@ -99,7 +100,9 @@ static void take_rest(hasty *h) {
         const int64_t *row = h->costs + h->free[k] * h->width;
         size_t best = h->width;
         for (size_t j = 0; j < h->width; j++)
-            if (h->person[j] == NOBODY && (best == h->width || row[j] - h->worth[j] < row[best] - h->worth[best])) best = j;
+            if (h->person[j] == NOBODY &&
+                (best == h->width || row[j] - h->worth[j] < row[best] - h->worth[best]))
+                best = j;
         h->person[best] = h->free[k], h->object[h->free[k]] = (uint32_t)best;
     }
 }

@@ -7,7 +7,7 @@
 /* A round of a level has an object more than the problem, and an arc more of each person. */
 enum { MOST_SIDE = SIGDORF_MOST_OBJECTS - 1 };
 
-static const library OWN = {sigdorf_solve, sigdorf_solve_dense};
+static const library OWN = {sigdorf_solve_watched, sigdorf_solve_dense_watched};
 
 /* Whether a table of so many rows and columns lies within a length. */
 static int lies_within(uint64_t rows, uint64_t columns, size_t length, size_t stride) {
@@ -106,16 +106,36 @@ static job job_of(const double *costs, size_t rows, size_t columns, size_t strid
                        .takes_gap = 1}};
 }
 
-int32_t sigdorf_solve_dense_f64(uint32_t persons, uint32_t objects, const double *costs, size_t costs_len,
-                                size_t stride, uint64_t bids, uint32_t *choice, size_t choice_len,
-                                uint32_t *hall_objects, size_t hall_objects_len, sigdorf_found_f64 *found) {
+/* The calls of a table without a gate, under a watch or NULL. */
+static int32_t solve_dense(uint32_t persons, uint32_t objects, const double *costs, size_t costs_len, size_t stride,
+                           uint64_t bids, sigdorf_watch *watch, uint32_t *choice, size_t choice_len,
+                           uint32_t *hall_objects, size_t hall_objects_len, sigdorf_found_f64 *found) {
     size_t columns = objects ? objects : persons;
     if (choice_len != persons || hall_objects_len != persons || !lies_within(persons, columns, costs_len, stride))
         return SIGDORF_SIZES;
     if (persons < 1 || persons > SIGDORF_MOST_PERSONS) return refused(found, SIGDORF_PERSONS, 0);
     if (columns < persons || columns > MOST_SIDE) return refused(found, SIGDORF_OBJECTS, 0);
     job w = job_of(costs, persons, columns, stride, bids);
+    w.q.watch = watch;
     return solve(&w, choice, hall_objects, found);
+}
+
+int32_t sigdorf_solve_dense_f64(uint32_t persons, uint32_t objects, const double *costs, size_t costs_len,
+                                size_t stride, uint64_t bids, uint32_t *choice, size_t choice_len,
+                                uint32_t *hall_objects, size_t hall_objects_len, sigdorf_found_f64 *found) {
+    return solve_dense(persons, objects, costs, costs_len, stride, bids, NULL, choice, choice_len, hall_objects,
+                       hall_objects_len, found);
+}
+
+int32_t sigdorf_solve_dense_f64_watched(uint32_t persons, uint32_t objects, const double *costs, size_t costs_len,
+                                        size_t stride, uint64_t bids, sigdorf_watch *watch, uint32_t *choice,
+                                        size_t choice_len, uint32_t *hall_objects, size_t hall_objects_len,
+                                        sigdorf_found_f64 *found) {
+    sigdorf_watch own = {watch->until, watch->stop, -1, 0, 0};
+    int32_t status = solve_dense(persons, objects, costs, costs_len, stride, bids, &own, choice, choice_len,
+                                 hall_objects, hall_objects_len, found);
+    watch->stopped = own.stopped, watch->asked = own.asked;
+    return status;
 }
 
 /* Takes the problem of a match: SIGDORF_OPTIMAL, or the status of what can't be asked. */

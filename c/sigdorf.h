@@ -3,9 +3,9 @@
  * What is proved holds of a call that keeps the duties below, and of no other. Nothing on this side of the border is seen by the
  * prover: this file is written by hand, and `c/test` tries its numbers against the library.
  *
- * PROVED: the five calls of whole numbers. TESTED ONLY: the three calls of doubles, sigdorf_solve_dense_f64,
- * sigdorf_match and sigdorf_match_many. They are plain C around the proved calls: each search in whole numbers is
- * proved, and how doubles become whole numbers is not.
+ * PROVED: the seven calls of whole numbers. TESTED ONLY: the four calls of doubles, sigdorf_solve_dense_f64,
+ * sigdorf_solve_dense_f64_watched, sigdorf_match and sigdorf_match_many. They are plain C around the proved calls: each
+ * search in whole numbers is proved, and how doubles become whole numbers is not.
  *
  * DUTIES of the caller, for each call:
  *   1  Each pointer is not null, is aligned as its type, and leads to as many whole values as the length after it says. A length of 0
@@ -16,6 +16,8 @@
  *   4  malloc, realloc and free are those of one allocator, and align as the C standard says.
  *   5  No call from a signal handler. In the child of a fork of a process with threads only where malloc may be called there: POSIX
  *      doesn't promise that, and glibc keeps it. A fork while another thread is within a call is as good, since no call holds a lock.
+ *   6  The descriptors of a sigdorf_watch stay open while the call runs. A write to a pipe whose reading end is closed raises SIGPIPE,
+ *      which ends the process, unless the signal is ignored.
  * Sizes and ranges are no duty: they are tested. Several threads may call at a time, each with memory of its own for what is written. No
  * call keeps a pointer, waits, prints, or ends the process; all memory that a call takes is given back before it returns.
  */
@@ -69,6 +71,27 @@ typedef struct sigdorf_found_f64 {
     uint32_t kind;    /* SIGDORF_REFUSED: a sigdorf_list_fault; SIGDORF_BRACKET: a sigdorf_limit */
     uint32_t place;   /* SIGDORF_REFUSED: the entry that is at fault, or 0 */
 } sigdorf_found_f64;
+
+/* What ends a search before its own end, and to whom it says how far it is. It is asked before each phase, and each time that some 4 million
+ * arcs or entries were looked at, which takes some milliseconds. 24 bytes. */
+typedef struct sigdorf_watch {
+    int64_t until;    /* when the search ends, in nanoseconds of CLOCK_MONOTONIC, as sigdorf_until has it; 0: never */
+    int32_t stop;     /* a descriptor that ends the search as soon as poll tells POLLIN of it, or an error or hang-up; -1: none */
+    int32_t progress; /* a descriptor to which each time a sigdorf_progress is written, by one write; -1: none. It should not block
+                         (O_NONBLOCK): what it doesn't take is lost */
+    uint32_t stopped; /* written: 1 where the watch has ended the search, else 0 */
+    uint32_t asked;   /* written: how often the search has looked at clock and descriptors */
+} sigdorf_watch;
+
+/* How far a search is. 40 bytes. */
+typedef struct sigdorf_progress {
+    int64_t cost;      /* of the best assignment so far; 0 where `known` is 0 */
+    int64_t lower;     /* no assignment costs less (not proved while the search runs); 0 where `known` is 0 */
+    int64_t eps;       /* of the phase, on the scale of costs times persons + 1 */
+    uint64_t bids;     /* of the phase */
+    uint32_t assigned; /* persons with an object now */
+    uint32_t known;    /* 1 where `cost` and `lower` are there */
+} sigdorf_progress;
 
 /* The object of a person who stays free, in an answer of sigdorf_match or sigdorf_match_many. */
 #define SIGDORF_FREE UINT32_MAX
@@ -169,6 +192,22 @@ int32_t sigdorf_solve_dense(uint32_t persons, uint32_t objects, const int64_t *c
                             const int64_t *start, size_t start_len, uint64_t bids, uint32_t *choice, size_t choice_len, int64_t *prices,
                             size_t prices_len, uint32_t *hall_objects, size_t hall_objects_len, sigdorf_found *found);
 
+/* As sigdorf_solve and sigdorf_solve_dense, under a watch. Where it has ended the search, watch->stopped is 1, and the status is
+ * SIGDORF_BRACKET with the kind SIGDORF_BIDS, or the one that the search had come to anyway. Else watch->stopped is 0, and all is as
+ * without a watch. So it is where the watch has no limit and no descriptors. `stopped` and `asked` are written whatever the status. What ends
+ * before some million arcs or entries are looked at may come to its end under a time that has passed. */
+int32_t sigdorf_solve_watched(uint32_t persons, uint32_t objects, const sigdorf_arc *arcs, size_t arcs_len, const int64_t *start,
+                              size_t start_len, uint64_t bids, sigdorf_watch *watch, uint32_t *choice, size_t choice_len, int64_t *prices,
+                              size_t prices_len, uint32_t *hall_objects, size_t hall_objects_len, sigdorf_found *found);
+
+int32_t sigdorf_solve_dense_watched(uint32_t persons, uint32_t objects, const int64_t *costs, size_t costs_len, size_t stride, int64_t none,
+                                    const int64_t *start, size_t start_len, uint64_t bids, sigdorf_watch *watch, uint32_t *choice,
+                                    size_t choice_len, int64_t *prices, size_t prices_len, uint32_t *hall_objects, size_t hall_objects_len,
+                                    sigdorf_found *found);
+
+/* For `until`: the time of CLOCK_MONOTONIC after so many seconds. Of a number that isn't above 0 it is now. Not proved. */
+int64_t sigdorf_until(double seconds);
+
 /* Solves the problem of a table of doubles, which lies as that of sigdorf_solve_dense. Any finite cost is taken as the
  * number that it is, and counts to its last bit; +infinity is no arc, but a gap. Tested only, as the top of this file says.
  *
@@ -190,6 +229,14 @@ int32_t sigdorf_solve_dense(uint32_t persons, uint32_t objects, const int64_t *c
 int32_t sigdorf_solve_dense_f64(uint32_t persons, uint32_t objects, const double *costs, size_t costs_len,
                                 size_t stride, uint64_t bids, uint32_t *choice, size_t choice_len,
                                 uint32_t *hall_objects, size_t hall_objects_len, sigdorf_found_f64 *found);
+
+/* The same under a watch for all its searches together: once it has ended one, no other begins. Then the status is
+ * SIGDORF_BRACKET, as where bids did not suffice, unless the answer was there anyway. Nothing is written to `progress`,
+ * since costs in between are in units of a search. Tested only. */
+int32_t sigdorf_solve_dense_f64_watched(uint32_t persons, uint32_t objects, const double *costs, size_t costs_len,
+                                        size_t stride, uint64_t bids, sigdorf_watch *watch, uint32_t *choice,
+                                        size_t choice_len, uint32_t *hall_objects, size_t hall_objects_len,
+                                        sigdorf_found_f64 *found);
 
 /* Pairs persons with objects where that costs no more than a gate, as trackers ask: whoever has no good object stays free.
  * The table is that of sigdorf_solve_dense_f64, but that there may be any numbers of persons and objects; 0 of either
@@ -250,6 +297,8 @@ const char *sigdorf_status_text(int32_t status);
 _Static_assert(sizeof(sigdorf_arc) == 16 && offsetof(sigdorf_arc, person) == 8 && offsetof(sigdorf_arc, object) == 12, "layout of an arc");
 _Static_assert(sizeof(sigdorf_found) == 32 && offsetof(sigdorf_found, persons) == 16 && offsetof(sigdorf_found, place) == 28, "layout of what is found");
 _Static_assert(sizeof(sigdorf_found_f64) == 32 && offsetof(sigdorf_found_f64, place) == 28, "layout of doubles' found");
+_Static_assert(sizeof(sigdorf_watch) == 24 && offsetof(sigdorf_watch, progress) == 12 && offsetof(sigdorf_watch, asked) == 20, "layout of a watch");
+_Static_assert(sizeof(sigdorf_progress) == 40 && offsetof(sigdorf_progress, bids) == 24 && offsetof(sigdorf_progress, known) == 36, "layout of progress");
 _Static_assert(sizeof(sigdorf_table_f64) == 40 && offsetof(sigdorf_table_f64, gate) == 32, "layout of a table");
 #endif
 

@@ -1,5 +1,6 @@
 /* A problem at work: what the parts of this folder share. run.c runs it, reading.c reads costs, entries.c puts entries
  * in order, refine.c makes an answer of the costs as they are, ties.c the first one of several, and amounts.c adds up.
+ * watching.c asks a watch between searches, and hasty.c has what may be said of a table in no time.
  *
  * The library has it for its calls of doubles (floats.c), and the Python package's extension is compiled of the same
  * files. It is plain C, and only tested. Proved are the library's calls of whole numbers, by which it solves. */
@@ -19,11 +20,12 @@
 #define STRANGE 1
 
 typedef int32_t arcs_call(uint32_t, uint32_t, const sigdorf_arc *, size_t, const int64_t *, size_t, uint64_t,
-                          uint32_t *, size_t, int64_t *, size_t, uint32_t *, size_t, sigdorf_found *);
+                          sigdorf_watch *, uint32_t *, size_t, int64_t *, size_t, uint32_t *, size_t, sigdorf_found *);
 typedef int32_t dense_call(uint32_t, uint32_t, const int64_t *, size_t, size_t, int64_t, const int64_t *, size_t,
-                           uint64_t, uint32_t *, size_t, int64_t *, size_t, uint32_t *, size_t, sigdorf_found *);
+                           uint64_t, sigdorf_watch *, uint32_t *, size_t, int64_t *, size_t, uint32_t *, size_t,
+                           sigdorf_found *);
 
-/* The proved calls: sigdorf_solve and sigdorf_solve_dense. */
+/* The proved calls: sigdorf_solve_watched and sigdorf_solve_dense_watched. */
 typedef struct {
     arcs_call *solve;
     dense_call *solve_dense;
@@ -43,6 +45,8 @@ typedef struct {
     char type;    /* d, q or Q, as Python's struct module has it */
     int has_limit, wants_prices, takes_gap; /* whether an answer may have a gap */
     int is_kept; /* a table that nobody writes while the call runs */
+    /* What ends all searches together, or NULL. Its `progress` gets a `scale` before the records of a search. */
+    sigdorf_watch *watch;
 } question;
 
 /* A block of memory that is used again. */
@@ -91,7 +95,6 @@ typedef struct {
      * units. */
     double gate, inner; /* and the greatest of these */
     int64_t gate_cost, gate_span;
-    int takes_gate;                          /* whether there may be one */
     int unit, has_gaps, has_tails, is_small; /* small: whole numbers to 10^9 */
     /* The cost may be above the least by so many 2^-gap_unit: 0, unless a limit ended the search. */
     int64_t gap;
@@ -254,6 +257,34 @@ typedef struct {
 void add_to(wide_sum *sum, double value);
 /* The double next to it: of two the even one, and an infinite one where it is beyond all of them. */
 double nearest_to(const wide_sum *sum);
+
+/* ---- Of watching.c */
+
+/* What the records that follow count, for who reads them: of costs c that a search adds up to a sum, with a cost of the
+ * caller's for each person that whole costs are counted from. It stands in the place of a record of the library's. */
+typedef struct {
+    int64_t least;     /* of doubles so many 2^-(unit + spare), turned; else the bits of one of the caller's numbers */
+    int32_t unit, spare;
+    double gate;       /* turned; in its place a search has `gate_cost`, or has none where that is 0 */
+    int64_t gate_cost;
+    uint32_t flags;    /* of these: */
+    uint32_t known;    /* SCALE, where a record has 0 or 1 */
+} scale;
+enum { SCALE = 2, HAS_TAILS = 1, IS_SMALL = 2, IS_WHOLE = 4, IS_UNSIGNED = 8 };
+
+/* A watch for one search of a job; one without limits and descriptors where the job has none. Only a search by all
+ * costs tells of progress: the rounds after it change less than a unit for each person. */
+sigdorf_watch watch_of(const job *w, int tells);
+/* Takes what a search has written to its watch. */
+void take_watch(job *w, const sigdorf_watch *own);
+/* Whether the watch has ended a search, or would end the next one; and whether it was by its time, so that somebody waits
+ * for the best that there is. */
+int is_over(job *w);
+int is_late(const job *w);
+
+/* Of hasty.c: 0, or SIGDORF_MEMORY. Takes a better assignment of a table without gaps, and a better bound, by some passes
+ * over it, than what a search has found that was ended. */
+int take_hastily(job *w, sigdorf_found *found);
 
 /* ---- Of run.c */
 

@@ -242,7 +242,7 @@ static void take_unit(job *w) {
     double inner;
     w->gate_cost = 0;
     w->unit = unit_of(w->floor, w->ceiling);
-    if (w->takes_gate && find_gate(w, &inner)) take_gate(w, inner);
+    if (find_gate(w, &inner)) take_gate(w, inner);
     w->least = units_of(w->floor, w->unit);
 }
 

@@ -262,9 +262,11 @@ static int solve_near(job *w, level *l, nearby *r, int64_t gap) {
     memset(r->choice, 0, persons * 4);
     memset(r->hall, 0, persons * 4);
     const int64_t start = 0;
-    int32_t status =
-        w->calls->solve((uint32_t)persons, (uint32_t)objects, r->arcs, r->near + persons, &start, 0,
-                        bids_for(w->q.bids, persons), r->choice, persons, r->prices, objects, r->hall, persons, &found);
+    sigdorf_watch watch = watch_of(w, 0);
+    int32_t status = w->calls->solve((uint32_t)persons, (uint32_t)objects, r->arcs, r->near + persons, &start, 0,
+                                     bids_for(w->q.bids, persons), &watch, r->choice, persons, r->prices, objects,
+                                     r->hall, persons, &found);
+    take_watch(w, &watch);
     if (status == SIGDORF_BRACKET) w->kind = found.kind;
     if (status == SIGDORF_BRACKET || status == SIGDORF_MEMORY) return status;
     if (status != SIGDORF_OPTIMAL) return STRANGE;
@@ -323,11 +325,11 @@ static int lower(nearby *r, size_t person) {
  * aren't the least, something is lowered around and around, and so by more than the sum of their slacks; nothing is,
  * where they are, since each step on the way from a price that stays lowers by one person's slack at most. Persons
  * take turns upwards and downwards, since most ways lead on in one of these orders. */
-static int relax(const level *l, nearby *r, step s) {
+static int relax(job *w, const level *l, nearby *r, step s) {
     list_lowering(l, r, s.gap);
     memset(r->change, 0, l->objects * 8);
     int moves = s.gap > 0;
-    for (int pass = 0; moves && pass < MOST_PASSES; pass++) {
+    for (int pass = 0; moves && pass < MOST_PASSES && !is_over(w); pass++) {
         moves = 0;
         for (size_t k = 0; k < r->persons; k++) moves |= lower(r, pass % 2 ? r->persons - 1 - k : k);
         for (size_t k = 0; k < r->persons; k++)
@@ -351,9 +353,9 @@ static void take_changes(level *l, const nearby *r) {
 
 /* Takes the next level by the choices that there are, in the finest unit: 1 where they aren't the least in it, or it
  * isn't seen that they are. */
-static int finer_by_prices(level *l, nearby *r) {
+static int finer_by_prices(job *w, level *l, nearby *r) {
     step s = in_finer(l, most_finer(l), r->finer);
-    if (!relax(l, r, s)) return 1;
+    if (!relax(w, l, r, s)) return 1;
     for (size_t j = 0; j < l->objects; j++) r->change[j] >>= s.spare;
     take_finer(l, s, r->finer);
     for (size_t i = 0; i < l->persons; i++) r->dual[i] = l->slack[l->pick[i]] + r->change[l->object[l->pick[i]]];
@@ -363,6 +365,10 @@ static int finer_by_prices(level *l, nearby *r) {
 
 /* Takes the next level by choices of the library's: 0, or a status. */
 static int finer_by_library(job *w, level *l, nearby *r) {
+    if (is_over(w)) {
+        w->kind = SIGDORF_BIDS;
+        return SIGDORF_BRACKET;
+    }
     step s = in_finer(l, step_of(l), r->finer);
     while (2 * (s.gap + 1) > SIGDORF_MOST_COST) s = in_finer(l, s.by - 1, r->finer);
     take_finer(l, s, r->finer);
@@ -563,12 +569,12 @@ static int keep_change(job *w, const level *l, const nearby *r) {
     return 0;
 }
 
-/* Takes levels until the choices are the least: 0, or a status. Where the bids of a round didn't suffice, the choices
- * of the level before it may be answered: whoever has a better arc gains less than a unit by it. */
+/* Takes levels until the choices are the least: 0, or a status. Where a limit has ended a round, the choices of the
+ * level before it may be answered: whoever has a better arc gains less than a unit by it. */
 static int settle(job *w, level *l, nearby *r) {
     while (!l->is_settled) {
         int unit = l->unit;
-        if (finer_by_prices(l, r)) {
+        if (finer_by_prices(w, l, r)) {
             int64_t left = count_unsettled(l);
             int status = finer_by_library(w, l, r);
             if (status == SIGDORF_BRACKET) w->gap = left, w->gap_unit = unit;

@@ -116,12 +116,14 @@ static int32_t ask_library(job *w, sigdorf_found *found) {
     write_start(w, start);
     memset(w->choice, 0, persons * 8);
     uint64_t bids = bids_for(w->q.bids, persons);
+    sigdorf_watch watch = watch_of(w, 1);
     int32_t status =
         w->arcs ? w->calls->solve((uint32_t)persons, (uint32_t)objects, w->arcs, w->entries, start, w->q.starts, bids,
-                                  w->choice, persons, w->prices, objects, w->hall, persons, found)
+                                  &watch, w->choice, persons, w->prices, objects, w->hall, persons, found)
                 : w->calls->solve_dense((uint32_t)persons, (uint32_t)objects, w->costs, w->q.count, objects, NO_ENTRY,
-                                        start, w->q.starts, bids, w->choice, persons, w->prices, objects, w->hall,
-                                        persons, found);
+                                        start, w->q.starts, bids, &watch, w->choice, persons, w->prices, objects,
+                                        w->hall, persons, found);
+    take_watch(w, &watch);
     if (start != &none) free(start);
     return status;
 }
@@ -143,40 +145,36 @@ static int are_entries(job *w) {
     return 0;
 }
 
+/* Makes the gap of a search with a gate one of the costs as they are, rounded up, where the choice may have more gates
+ * than another assignment. All that is no gate costs less than half of one together, so a bound of all whole costs
+ * tells the fewest gates. */
+static void lift_gap(job *w, int64_t lower) {
+    int64_t gates = 0, less = lower - w->gate_cost / 2;
+    for (size_t i = 0; i < w->persons; i++) gates += whole_at(w, w->choice[i]) == w->gate_cost;
+    if (less > 0) gates -= (less - 1) / w->gate_cost + 1;
+    if (gates <= 0) return;
+    /* In a unit in which all of it is below 2^62. */
+    int exponent, unit = w->unit;
+    frexp(fabs(w->gate) > fabs(w->floor) ? w->gate : w->floor, &exponent);
+    if (unit > 59 - exponent - bits_in((size_t)gates)) unit = 59 - exponent - bits_in((size_t)gates);
+    double more = ldexp(w->gate, unit) - ldexp((double)(w->least + w->gate_cost), unit - w->unit);
+    int down = w->unit - unit;
+    w->gap = gates * ((int64_t)(more + fabs(more) * 0x1p-48) + 2) + (down > 62 ? 0 : w->gap >> down) + 1;
+    w->gap_unit = unit;
+}
+
 /* Takes what a call of the library's has found where it has no least assignment: a status. */
 static int take_found(job *w, int32_t status, const sigdorf_found *found) {
     w->kind = found->kind;
     w->gap = found->cost - found->lower + (w->has_tails ? (int64_t)w->persons : 0);
     w->gap_unit = w->unit;
     w->hall_persons = found->persons, w->hall_objects = found->objects;
+    if (status == SIGDORF_BRACKET && w->gate_cost && w->gap >= 0) lift_gap(w, found->lower);
     if (status == SIGDORF_BRACKET) return w->q.takes_gap && w->gap >= 0 ? status : STRANGE;
     return status == SIGDORF_INFEASIBLE || status == SIGDORF_MEMORY ? status : STRANGE;
 }
 
 /* ---- The whole way */
-
-/* Solves it with a gate, or without one. */
-static int run_by(job *w, int takes_gate) {
-    w->takes_gate = takes_gate;
-    w->levels = 0, w->are_whole = 0, w->gap = 0;
-    int status = make_room(w);
-    if (!status) status = make_costs(w);
-    if (status) return status;
-    sigdorf_found found = {0};
-    int32_t said = ask_library(w, &found);
-    if (said != SIGDORF_OPTIMAL && said != SIGDORF_BRACKET) return take_found(w, said, &found);
-    status = are_entries(w);
-    if (status) return status;
-    if (said == SIGDORF_BRACKET)
-        status = take_found(w, said, &found);
-    else
-        status = refine(w);
-    if (status == SIGDORF_BRACKET && !w->q.takes_gap) return STRANGE;
-    if (status && (status != SIGDORF_BRACKET || w->gate_cost)) return status;
-    int fails = w->q.wants_prices ? sum_up(w) : 0;
-    if (!fails && w->q.wants_prices) fails = combine(w);
-    return fails ? fails : status;
-}
 
 int begin_job(job *w, workshop *shop, const library *calls, int maximize) {
     const question *q = &w->q;
@@ -193,9 +191,26 @@ int begin_job(job *w, workshop *shop, const library *calls, int maximize) {
 }
 
 int run(job *w) {
-    int status = run_by(w, 1);
-    /* What a search with a gate leaves is no bound of the costs as they are. */
-    return status == SIGDORF_BRACKET && w->gate_cost ? run_by(w, 0) : status;
+    w->levels = 0, w->are_whole = 0, w->gap = 0;
+    int status = make_room(w);
+    if (!status) status = make_costs(w);
+    if (status) return status;
+    sigdorf_found found = {0};
+    int32_t said = ask_library(w, &found);
+    if (said != SIGDORF_OPTIMAL && said != SIGDORF_BRACKET) return take_found(w, said, &found);
+    status = are_entries(w);
+    if (status) return status;
+    if (said == SIGDORF_BRACKET && w->q.takes_gap && is_late(w)) status = take_hastily(w, &found);
+    if (status) return status;
+    if (said == SIGDORF_BRACKET)
+        status = take_found(w, said, &found);
+    else
+        status = refine(w);
+    if (status == SIGDORF_BRACKET && !w->q.takes_gap) return STRANGE;
+    if (status && status != SIGDORF_BRACKET) return status;
+    int fails = w->q.wants_prices ? sum_up(w) : 0;
+    if (!fails && w->q.wants_prices) fails = combine(w);
+    return fails ? fails : status;
 }
 
 unsigned begin_floats(void) {

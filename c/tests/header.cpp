@@ -30,9 +30,18 @@ int main() {
     std::vector<sigdorf_found_f64> founds(2);
     failed += sigdorf_match_many(tables, 2, SIGDORF_USUAL_BIDS, choices.data(), choices.size(), statuses.data(), statuses.size(),
                                  founds.data(), founds.size()) != SIGDORF_OPTIMAL || choices[1] != SIGDORF_FREE || choices[2] != 0;
+    sigdorf_watch watch = {sigdorf_until(60), -1, -1, 1, 0};
+    failed += sigdorf_solve_watched(4, 0, arcs.data(), arcs.size(), &no_start, 0, SIGDORF_USUAL_BIDS, &watch, choice.data(), 4,
+                                    prices.data(), 4, hall.data(), 4, &found) != SIGDORF_OPTIMAL || found.cost != 145 || watch.stopped;
+    const std::vector<std::int64_t> whole = {1, 2, 1, 4};
+    failed += sigdorf_solve_dense_watched(2, 2, whole.data(), 4, 2, -1, &no_start, 0, SIGDORF_USUAL_BIDS, &watch, choice.data(), 2,
+                                          prices.data(), 2, hall.data(), 2, &found) != SIGDORF_OPTIMAL || found.cost != 3;
+    failed += sigdorf_solve_dense_f64_watched(2, 2, table.data(), table.size(), 2, SIGDORF_USUAL_BIDS, &watch, choice.data(), 2,
+                                              hall.data(), 2, &exact) != SIGDORF_OPTIMAL || choice[0] != 1;
+    failed += sizeof(sigdorf_watch) != 24 || sizeof(sigdorf_progress) != 40;
     char version[16];
     std::snprintf(version, sizeof version, "%d.%d", SIGDORF_VERSION_MAJOR, SIGDORF_VERSION_MINOR);
     failed += std::strcmp(version, SIGDORF_VERSION) != 0;
-    std::printf("%d passed, %d failed\n", 8 - failed, failed);
+    std::printf("%d passed, %d failed\n", 12 - failed, failed);
     return failed != 0;
 }

@@ -70,6 +70,16 @@ static int32_t solve_same(void) { return sigdorf_solve_dense(2, 3, same, 6, 3, -
 static int32_t table_from(void) { return sigdorf_solve_dense(2, 3, table, 6, 3, -1, start, 3, SIGDORF_USUAL_BIDS, choice, 2, prices, 3, objects, 2, &found); }
 static int32_t stop_table(void) { return sigdorf_solve_dense(2, 3, table, 6, 3, -1, nothing, 0, 0, choice, 2, prices, 3, objects, 2, &found); }
 static int32_t stop(void) { return sigdorf_solve(2, 4, arcs, 4, nothing, 0, 0, choice, 2, prices, 4, objects, 2, &found); }
+static sigdorf_watch none = {0, -1, -1, 0, 0}, past = {1, -1, -1, 0, 0};
+static int32_t watch_table(void) {
+    return sigdorf_solve_dense_watched(2, 3, table, 6, 3, -1, nothing, 0, SIGDORF_USUAL_BIDS, &none, choice, 2, prices, 3, objects, 2, &found);
+}
+static int32_t stop_by_time(void) {
+    return sigdorf_solve_watched(2, 4, arcs, 4, nothing, 0, SIGDORF_USUAL_BIDS, &past, choice, 2, prices, 4, objects, 2, &found);
+}
+static int32_t watch_doubles(void) {
+    return sigdorf_solve_dense_f64_watched(2, 3, parts, 6, 3, SIGDORF_USUAL_BIDS, &none, choice, 2, objects, 2, &found_f64);
+}
 static int32_t by_messages(void) { return sigdorf_solve_by_messages(2, 0, arcs, 4, start, 2, SIGDORF_USUAL_BIDS, choice, 2, prices, 2, objects, 2, &found); }
 static int32_t solve_both(void) { return sigdorf_solve(2, 0, both, 2, nothing, 0, SIGDORF_USUAL_BIDS, choice, 2, prices, 2, objects, 2, &found); }
 static int32_t doubles(const double *costs, uint64_t bids) {
@@ -216,6 +226,9 @@ int main(void) {
     refuse_each("solve of doubles", solve_doubles, SIGDORF_OPTIMAL);
     refuse_each("solve of doubles without an assignment", solve_gaps, SIGDORF_INFEASIBLE);
     refuse_each("solve of doubles without bids", stop_doubles, SIGDORF_BRACKET);
+    refuse_each("solve of a table, watched", watch_table, SIGDORF_OPTIMAL);
+    refuse_each("solve under a time that has passed", stop_by_time, SIGDORF_BRACKET);
+    refuse_each("solve of doubles, watched", watch_doubles, SIGDORF_OPTIMAL);
     refuse_each("match", match, SIGDORF_OPTIMAL);
     refuse_each_of_many();
     want_few_allocations();

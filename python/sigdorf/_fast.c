@@ -6,7 +6,7 @@
  * and asks it first; where it answers None, Python looks closer: at a fault, at a problem without a full assignment, at
  * numbers that aren't taken here. Whatever is answered here would be the same there.
  *
- * A call of few entries holds the interpreter's lock; others give it up. Costs are rounded into a copy, and what that
+ * A call of few entries without a watch holds the interpreter's lock; others give it up. Costs are rounded into a copy, and what that
  * leaves of the few that matter is read again where they lie: so that nothing is answered of costs that somebody has
  * written meanwhile. A table that is read-only needs no copy where its numbers are what the library takes.
  */
@@ -23,7 +23,7 @@
 #include "levels.h"
 
 /* Rises where what Python calls changes, so that an extension of other sources isn't used: fast.py has the same. */
-#define INTERFACE 7
+#define INTERFACE 8
 /* With fewer entries a call holds the lock: what giving it up costs would count. */
 #define FEWEST 2000
 /* So many bytes of working memory at most are kept for the next call. */
@@ -63,6 +63,21 @@ typedef struct {
     Py_buffer views[4];
     int held, can_run, is_found;
 } task;
+
+/* The last of a call's arguments, which may be left out: a watch of (when it ends a search, a descriptor that ends it,
+ * one for progress), as sigdorf.h has them, or None. 1 where there is something else, or where arguments are missing. */
+static int take_watch_of(PyObject *const *arguments, Py_ssize_t count, Py_ssize_t place, sigdorf_watch *own,
+                         sigdorf_watch **watch) {
+    *watch = NULL;
+    if (count == place || (count == place + 1 && arguments[place] == Py_None)) return 0;
+    if (count != place + 1 || !PyTuple_Check(arguments[place]) || PyTuple_Size(arguments[place]) != 3) return 1;
+    PyObject *given = arguments[place];
+    *own = (sigdorf_watch){.until = PyLong_AsLongLong(PyTuple_GetItem(given, 0)),
+                           .stop = (int32_t)PyLong_AsLong(PyTuple_GetItem(given, 1)),
+                           .progress = (int32_t)PyLong_AsLong(PyTuple_GetItem(given, 2))};
+    *watch = own;
+    return PyErr_Occurred() != NULL;
+}
 
 /* The numbers of a buffer, of one of these types, one after another, in so many dimensions: NULL where it has others.
  */
@@ -166,7 +181,7 @@ static void solve(task *t) {
 }
 
 static void solve_alone(task *t) {
-    if (t->w.q.count < FEWEST) {
+    if (t->w.q.count < FEWEST && !t->w.q.watch) {
         solve(t);
         return;
     }
@@ -376,14 +391,15 @@ static PyObject *slices_of_all(const task *tasks, Py_ssize_t number) {
 
 static PyObject *found(PyObject *module, PyObject *const *arguments, Py_ssize_t count) {
     (void)module;
-    if (count != 6 || !(arguments[1] == Py_True || arguments[1] == Py_False) ||
+    sigdorf_watch own, *watch;
+    if (take_watch_of(arguments, count, 6, &own, &watch) || !(arguments[1] == Py_True || arguments[1] == Py_False) ||
         !(arguments[2] == Py_True || arguments[2] == Py_False)) {
         PyErr_SetString(PyExc_TypeError,
-                        "a problem, True or False, True or False, a limit, a start and bids are wanted");
+                        "a problem, True or False, True or False, a limit, a start, bids and a watch are wanted");
         return NULL;
     }
     workshop shop = take_kept();
-    task t = {.w.q.wants_prices = arguments[2] == Py_True};
+    task t = {.w.q.wants_prices = arguments[2] == Py_True, .w.q.watch = watch};
     if (!begin(&t, &shop, arguments[0], arguments[1] == Py_True, arguments + 3)) solve_alone(&t);
     /* What isn't plain is looked at by Python. */
     PyErr_Clear();
@@ -393,15 +409,17 @@ static PyObject *found(PyObject *module, PyObject *const *arguments, Py_ssize_t 
     return answer;
 }
 
-/* Begins a task of each problem, with its limit if there are limits: how many entries those have that can be run. */
+/* Begins a task of each problem, with its limit if there are limits: how many entries those have that can be run. A
+ * watch is of those that aren't small: to look at it would count beside the others, of which a call has some dozens. */
 static size_t begin_all(task *tasks, Py_ssize_t number, workshop *shop, PyObject *problems, PyObject *limits,
-                        int maximize, PyObject *bids) {
+                        int maximize, PyObject *bids, sigdorf_watch *watch) {
     size_t entries = 0;
     for (Py_ssize_t k = 0; k < number; k++) {
         PyObject *const more[3] = {limits ? PyTuple_GetItem(limits, k) : NULL, Py_None, bids};
         tasks[k].w.q.wants_prices = !limits;
         tasks[k].can_run = !begin(&tasks[k], shop, PyTuple_GetItem(problems, k), maximize, limits ? more : NULL);
         if (tasks[k].can_run) entries += tasks[k].w.q.count;
+        if (tasks[k].w.q.count >= FEWEST) tasks[k].w.q.watch = watch;
         PyErr_Clear();
     }
     return entries;
@@ -409,17 +427,17 @@ static size_t begin_all(task *tasks, Py_ssize_t number, workshop *shop, PyObject
 
 static void solve_all(task *tasks, Py_ssize_t number) {
     for (Py_ssize_t k = 0; k < number; k++)
-        if (tasks[k].can_run) solve(&tasks[k]);
+        if (tasks[k].can_run && !is_over(&tasks[k].w)) solve(&tasks[k]);
 }
 
 /* The answers of problems, each without a limit and with prices, or with a limit of its own. With few entries and
- * limits the lock is held. */
-static PyObject *found_each(PyObject *problems, PyObject *limits, int maximize, PyObject *bids) {
+ * limits the lock is held. What a watch has ended has none. */
+static PyObject *found_each(PyObject *problems, PyObject *limits, int maximize, PyObject *bids, sigdorf_watch *watch) {
     Py_ssize_t number = PyTuple_Size(problems);
     task *tasks = calloc(number ? (size_t)number : 1, sizeof *tasks);
     if (!tasks) return PyErr_NoMemory();
     workshop shop = take_kept();
-    if (begin_all(tasks, number, &shop, problems, limits, maximize, bids) < FEWEST && limits)
+    if (begin_all(tasks, number, &shop, problems, limits, maximize, bids, watch) < FEWEST && limits && !watch)
         solve_all(tasks, number);
     else {
         Py_BEGIN_ALLOW_THREADS solve_all(tasks, number);
@@ -434,28 +452,31 @@ static PyObject *found_each(PyObject *problems, PyObject *limits, int maximize, 
 
 static PyObject *found_all(PyObject *module, PyObject *const *arguments, Py_ssize_t count) {
     (void)module;
-    if (count != 2 || !PyList_Check(arguments[0]) || !(arguments[1] == Py_True || arguments[1] == Py_False)) {
-        PyErr_SetString(PyExc_TypeError, "a list of tables, and True or False are wanted");
+    sigdorf_watch own, *watch;
+    if (take_watch_of(arguments, count, 2, &own, &watch) || !PyList_Check(arguments[0]) ||
+        !(arguments[1] == Py_True || arguments[1] == Py_False)) {
+        PyErr_SetString(PyExc_TypeError, "a list of tables, True or False, and a watch are wanted");
         return NULL;
     }
     /* Nobody else has this tuple, so that it stays as it is while the lock is given up. */
     PyObject *tables = PyList_AsTuple(arguments[0]);
-    PyObject *answers = tables ? found_each(tables, NULL, arguments[1] == Py_True, NULL) : NULL;
+    PyObject *answers = tables ? found_each(tables, NULL, arguments[1] == Py_True, NULL, watch) : NULL;
     Py_XDECREF(tables);
     return answers;
 }
 
 static PyObject *matched_all(PyObject *module, PyObject *const *arguments, Py_ssize_t count) {
     (void)module;
-    if (count != 4 || !PyList_Check(arguments[0]) || !PyList_Check(arguments[1]) ||
-        !(arguments[2] == Py_True || arguments[2] == Py_False)) {
-        PyErr_SetString(PyExc_TypeError, "a list of problems, one of limits, True or False, and bids are wanted");
+    sigdorf_watch own, *watch;
+    if (take_watch_of(arguments, count, 4, &own, &watch) || !PyList_Check(arguments[0]) ||
+        !PyList_Check(arguments[1]) || !(arguments[2] == Py_True || arguments[2] == Py_False)) {
+        PyErr_SetString(PyExc_TypeError, "a list of problems, one of limits, True or False, bids and a watch are wanted");
         return NULL;
     }
     PyObject *problems = PyList_AsTuple(arguments[0]), *limits = problems ? PyList_AsTuple(arguments[1]) : NULL;
     PyObject *answers = NULL;
     if (limits && PyTuple_Size(problems) == PyTuple_Size(limits))
-        answers = found_each(problems, limits, arguments[2] == Py_True, arguments[3]);
+        answers = found_each(problems, limits, arguments[2] == Py_True, arguments[3], watch);
     else if (limits)
         PyErr_SetString(PyExc_ValueError, "limits must be as many as problems");
     Py_XDECREF(problems);
@@ -483,14 +504,14 @@ static PyObject *bind(PyObject *module, PyObject *const *arguments, Py_ssize_t c
     { #name, (PyCFunction)(void (*)(void))name, METH_FASTCALL, text }
 
 static PyMethodDef methods[] = {
-    METHOD(bind, "bind(dense, arcs): the addresses of the library's sigdorf_solve_dense and sigdorf_solve."),
+    METHOD(bind, "bind(dense, arcs): the addresses of the library's sigdorf_solve_dense_watched and sigdorf_solve_watched."),
     METHOD(
         found,
-        "found(problem, maximize, wants_prices, limit, start, bids): the pairs of a least assignment, or the parts of a solution, or None."),
+        "found(problem, maximize, wants_prices, limit, start, bids, watch=None): the pairs of a least assignment, or the parts of a solution, or None."),
     METHOD(found_all,
-           "found_all(tables, maximize): the parts of the solution of each, or None, with the lock given up once."),
+           "found_all(tables, maximize, watch=None): the parts of the solution of each, or None, with the lock given up once."),
     METHOD(matched_all,
-           "matched_all(problems, limits, maximize, bids): the pairs of each under its limit, or None; with the lock given up once."),
+           "matched_all(problems, limits, maximize, bids, watch=None): the pairs of each under its limit, or None; with the lock given up once."),
     {NULL, NULL, 0, NULL},
 };
 

@@ -115,23 +115,26 @@ class Asked:
             raise ValueError(START_FAULTS[3].format(place=outside.argmax()))
         return fast.plain(start)
 
-    def solution(self, start, bids, words=NO_ASSIGNMENT):
-        """The Solution. These words begin an Infeasible."""
-        found = self._by_extension(start, bids)
+    def solution(self, start, bids, words=NO_ASSIGNMENT, watch=None):
+        """The Solution, under a watch or None. These words begin an Infeasible."""
+        found = self._by_extension(start, bids, watch)
         if found is None:
-            found = self.problem.solution(start, bids, words)
+            found = self.problem.solution(start, bids, words, watch)
         elif self.decimals is not None:
             found = self.problem.solution_of_units(found)
         labels = self.labels(found.rows, found.columns)
         return found if labels is None else found._replace(labels=labels)
 
-    def _by_extension(self, start, bids):
+    def _by_extension(self, start, bids, watch):
         """The Solution, of decimals in whole units, or None."""
         # Decimals are turned already.
         maximize = self.maximize and self.decimals is None
         if self.decimals is not None and start is not None and start.dtype.kind == "f":
             start = start * self.problem.decimal_scale
-        return fast.solution_of(self.plain(), maximize, start, bids)
+        if watch is not None and watch.progress:
+            costs = None if self.decimals is None else self.problem.costs
+            watch.progress.by_extension(min(self.sides), maximize, costs and (lambda units: costs.shown(costs.amount(units))))
+        return fast.solution_of(self.plain(), maximize, start, bids, watch)
 
     def check(self, solution):
         """Raises Refused where a Solution isn't least."""

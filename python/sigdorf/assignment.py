@@ -1,15 +1,14 @@
 """Assignments of rows to columns."""
-import functools
 import time
 import typing
 
 from numpy.typing import ArrayLike
 
 from .asked import bids_of
-from .library import USUAL_BIDS, bids_for
+from .library import USUAL_BIDS
 from .restricted import asked_of
-from .slices import Slices, progress_of, seconds_of, solve_in_slices
 from .solution import Solution
+from .waiting import watch_of
 
 # Rows and columns by numbers, or by names where the table has them.
 Pairs = typing.Iterable[tuple[typing.Any, typing.Any]]
@@ -66,18 +65,17 @@ def solve(
     bids: how many bids a phase may take, from 0 to 2^64 - 1. The usual 10^8 are 1,000 for each of the smaller side where
         that is more.
     seconds: a limit of time, from 0. After it comes what was found by then: no fault, but a solution whose
-        `is_optimal` is False. The search is made in slices, each from the beginning again with more bids than the one
-        before. The first answer takes as long as it takes to read the entries and to find any assignment, whatever the
-        limit. docs/PYTHON.md says how late it may be.
-    progress: is called after each slice with the bound and the cost of the best so far, as the solution will have them.
+        `is_optimal` is False. An answer takes as long as it takes to read the entries and to find any assignment,
+        whatever the limit. docs/PYTHON.md says how late it may be.
+    progress: is called with a bound and a cost, while the search runs each time that one of them is better, and at the
+        end with those of the solution. What it raises ends the search.
 
     In place of the lists there may be one table: a matrix, dense (what is infinite is no entry) or sparse (what isn't
     stored is none), or a table with `index`, `columns` and `to_numpy`, such as pandas' DataFrame, or :class:`Edges`,
     whose names are in the solution's `labels` and in every fault.
 
     Raises Infeasible where there is no full assignment, ValueError where an argument is at fault (a masked array among
-    them), and MemoryError. KeyboardInterrupt gets away from a long call at once; the search itself runs on to its end
-    in a thread of its own, unseen.
+    them), and MemoryError. KeyboardInterrupt ends a long search at once.
 
     >>> solution = sigdorf.solve([0, 0, 1, 1], [0, 1, 0, 1], [1, 2.5, 1, 4])
     >>> solution.rows.tolist(), solution.columns.tolist(), solution.cost
@@ -85,14 +83,14 @@ def solve(
     >>> sigdorf.solve([[1, 2], [1, 4], [1, 3]], forced=[(0, 1)], capacity=2)
     Solution(cost=4, pairs={0: 1, 1: 0, 2: 0})
     """
-    began = time.monotonic()
+    began = time.monotonic_ns()
     asked = asked_of(rows, columns, costs, shape, maximize, decimals, missing, forced, forbidden, capacity)
     start, bids = asked.start_of(start), bids_of(bids)
-    if seconds is None and progress is None:
-        return asked.solution(start, bids)
-    persons = min(asked.sides)
-    slices = Slices(asked.costs.size, persons, seconds_of(seconds), bids_for(bids, persons), began)
-    return solve_in_slices(functools.partial(asked.solution, start), slices, asked.maximize, progress_of(progress))
+    watch = watch_of(seconds, progress, asked.maximize, began)
+    solution = asked.solution(start, bids, watch=watch)
+    if progress is not None:
+        watch.progress.end(solution)
+    return solution
 
 
 def check(

@@ -66,6 +66,10 @@ class Costs:
         """A bound as solutions show it, rounded away from all sums."""
         return outer_bound(amount, self._sign < 0, self._has_whole_sums())
 
+    def shown_beyond(self, amount):
+        """What no sum of some is worse than, in the same way."""
+        return outer_bound(amount, self._sign > 0, self._has_whole_sums())
+
     def _has_whole_sums(self):
         return self._given.dtype.kind != "f" or self.is_whole and self.unit == 0
 
@@ -97,7 +101,7 @@ class DecimalCosts:
         """A sum as solutions show it: exact, whatever precision the caller's decimals have."""
         return self._shown(int(amount * 10**self.decimals))
 
-    shown_bound = shown
+    shown_bound = shown_beyond = shown
 
     def _shown(self, units):
         return decimal.Decimal(f"{units}e-{self.decimals}") if self.decimals else units

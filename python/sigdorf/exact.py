@@ -23,9 +23,15 @@ class Answer(typing.NamedTuple):
     """What the costs are above the least at most, in the unit of the costs: 0 but where a limit ended the search."""
 
 
-def solve_costs(persons, objects, arcs, costs, start, bids):
-    """The Answer to a problem of these arcs and Costs: the first of the least ones. Raises NoAssignment."""
-    found = solve_whole(persons, objects, arcs, start, bids)
+def solve_costs(persons, objects, arcs, costs, start, bids, watch=None):
+    """The Answer to a problem of these arcs and Costs: the first of the least ones, or under a Watch what there is. Raises NoAssignment."""
+    tells = watch is not None and watch.progress is not None
+    if tells:
+        watch.progress.by_costs(costs, persons)
+    found = solve_whole(persons, objects, arcs, start, bids, watch)
+    if tells:
+        # What comes after is better by less than a unit for each person.
+        watch.progress.be_silent()
     unit, above = costs.unit, found.cost - found.lower
     if above:
         # The tails of an assignment are half a unit for each person at most, and so are those of another one.
@@ -39,15 +45,15 @@ def solve_costs(persons, objects, arcs, costs, start, bids):
         return Answer(choice, [(prices, unit)], 1, fractions.Fraction(0))
     # Floats that run under are next to nothing in a unit: a caller who has numpy raise that has no use of it here.
     with numpy.errstate(all="ignore"):
-        return _refined(arcs, first_level(arcs, objects, costs, found.choice, prices), prices, bids)
+        return _refined(arcs, first_level(arcs, objects, costs, found.choice, prices), prices, bids, watch)
 
 
-def _refined(arcs, level, prices, bids):
+def _refined(arcs, level, prices, bids, watch):
     """The Answer that finer levels come to, from the first one with its prices."""
     levels, left = [(prices, level.unit)], level.unsettled()
     try:
         while left:
-            level, change = level.finer(bids)
+            level, change = level.finer(bids, watch)
             levels.append((change, level.unit))
             left = level.unsettled()
     except OutOfBids:

@@ -1,4 +1,4 @@
-"""The extension `_fast`, where it was built and the library has the calls that it makes: the one road of tables, matrices and lists.
+"""The extension `_fast`, where it was built: the one road of tables, matrices and lists.
 
 Without it, and wherever it answers None, the rest of the package solves the same with the same pairs: it is slower, and knows what to say of a fault.
 """
@@ -17,15 +17,14 @@ from .waiting import call_waiting
 # A call of a table with fewer entries, or of a list with fewer, ends so soon that a thread of its own isn't worth its time.
 FEWEST, FEWEST_LISTED = 1 << 16, 1 << 13
 # That of the extension of these sources; one that was built of others isn't used.
-INTERFACE = 7
+INTERFACE = 8
 ARRAY = numpy.ndarray
 FLOAT, WHOLE, NATURAL = map(numpy.dtype, ("f8", "i8", "u8"))
 
 
 def _bound():
     """The extension, or None. The variable SIGDORF_PLAIN has the package go without it."""
-    dense, arcs = address_of("sigdorf_solve_dense"), address_of("sigdorf_solve")
-    if os.environ.get("SIGDORF_PLAIN") or dense is None:
+    if os.environ.get("SIGDORF_PLAIN"):
         return None
     try:
         from . import _fast
@@ -33,7 +32,7 @@ def _bound():
         return None
     if getattr(_fast, "INTERFACE", None) != INTERFACE:
         return None
-    _fast.bind(dense, arcs)
+    _fast.bind(address_of("sigdorf_solve_dense_watched"), address_of("sigdorf_solve_watched"))
     return _fast
 
 
@@ -75,16 +74,17 @@ def _narrow(numbers):
         return narrow if (narrow == numbers).all() else numbers
 
 
-def found(problem, maximize, wants_prices, limit=None, start=None, bids=USUAL_BIDS):
+def found(problem, maximize, wants_prices, limit=None, start=None, bids=USUAL_BIDS, watch=None):
     """What the extension finds of a plain table, or of (rows, columns, costs, number of rows, number of columns): None where it has to be looked at closer.
 
     The arrays of the pairs; with a limit their places too, and rows and columns that stay free. Or the parts of a solution, where prices are wanted.
     """
     if _extension is None:
         return None
-    if problem[2].size < FEWEST_LISTED if type(problem) is tuple else problem.size < FEWEST:
+    is_long = problem[2].size >= FEWEST_LISTED if type(problem) is tuple else problem.size >= FEWEST
+    if not is_long and watch is None:
         return _extension.found(problem, maximize, wants_prices, limit, start, bids)
-    return call_waiting(True, _extension.found, problem, maximize, wants_prices, limit, start, bids)
+    return call_waiting(is_long, watch, _extension.found, problem, maximize, wants_prices, limit, start, bids)
 
 
 def found_under_limits(tables, limits, maximize, bids):
@@ -92,18 +92,20 @@ def found_under_limits(tables, limits, maximize, bids):
     if _extension is None:
         return [None] * len(tables)
     is_long = any(table.size >= FEWEST for table in tables)
-    return call_waiting(is_long, _extension.matched_all, tables, limits, maximize, bids)
+    return call_waiting(is_long, None, _extension.matched_all, tables, limits, maximize, bids)
 
 
-def solution_of(problem, maximize, start=None, bids=USUAL_BIDS):
+def solution_of(problem, maximize, start=None, bids=USUAL_BIDS, watch=None):
     """The Solution of such a problem, or None."""
-    parts = found(problem, maximize, True, None, start, bids)
+    parts = found(problem, maximize, True, None, start, bids, watch)
     return None if parts is None else _made(problem, maximize, parts)
 
 
-def solutions_of(tables, maximize):
+def solutions_of(tables, maximize, watch):
     """The Solution of each plain table of a list, or None in its place."""
-    return [None if parts is None else _made(table, maximize, parts) for table, parts in zip(tables, _extension.found_all(tables, maximize))]
+    is_long = any(table.size >= FEWEST for table in tables)
+    all_parts = call_waiting(is_long, watch, _extension.found_all, tables, maximize)
+    return [None if parts is None else _made(table, maximize, parts) for table, parts in zip(tables, all_parts)]
 
 
 def _made(problem, maximize, parts):

@@ -44,6 +44,15 @@ class Found(ctypes.Structure):
     _fields_ = [(name, ctypes.c_int64) for name in ("cost", "lower")] + [(name, ctypes.c_uint32) for name in ("persons", "objects", "kind", "place")]
 
 
+class Watched(ctypes.Structure):
+    _fields_ = [("until", ctypes.c_int64), *((name, ctypes.c_int32) for name in ("stop", "progress")), *((name, ctypes.c_uint32) for name in ("stopped", "asked"))]
+
+
+NO_WATCH = 0, -1, -1
+# The calls that the package makes.
+CALLS = "sigdorf_solve_watched", "sigdorf_solve_dense_watched", "sigdorf_check"
+
+
 def _path():
     """The library that SIGDORF_LIBRARY names, or the one beside this module, or the one that `c/build` has made, or an installed one."""
     named = os.environ.get("SIGDORF_LIBRARY")
@@ -64,11 +73,14 @@ def _load():
         library = ctypes.CDLL(PATH)
     except OSError as fault:
         raise ImportError(f"libsigdorf.so can't be loaded: make it by c/build, install it, or name it in the variable SIGDORF_LIBRARY ({fault})") from None
+    missing = [name for name in CALLS if not hasattr(library, name)]
+    if missing:
+        raise ImportError(f"{PATH} is older than this package: it has no {missing[0]}; make it by c/build, or name another one in the variable SIGDORF_LIBRARY")
     number, pointer, size, found = ctypes.c_uint32, ctypes.c_void_p, ctypes.c_size_t, ctypes.POINTER(Found)
-    problem = [number, number, pointer, size]
-    library.sigdorf_solve.argtypes = [*problem, pointer, size, ctypes.c_uint64, *[pointer, size] * 3, found]
+    problem, watch = [number, number, pointer, size], ctypes.POINTER(Watched)
+    library.sigdorf_solve_watched.argtypes = [*problem, pointer, size, ctypes.c_uint64, watch, *[pointer, size] * 3, found]
     library.sigdorf_check.argtypes = [*problem, *[pointer, size] * 2, ctypes.c_int64, found]
-    for call in (library.sigdorf_solve, library.sigdorf_check):
+    for call in (library.sigdorf_solve_watched, library.sigdorf_check):
         call.restype = ctypes.c_int32
     return library
 
@@ -77,18 +89,15 @@ _library = _load()
 
 
 def version():
-    """The version of the library that was loaded, or None of one before 1.1 that doesn't tell it."""
-    call = getattr(_library, "sigdorf_version", None)
-    if call is None:
-        return None
+    """The version of the library that was loaded."""
+    call = _library.sigdorf_version
     call.restype = ctypes.c_char_p
     return call().decode()
 
 
 def address_of(name):
-    """Where a call of the library is, or None where the library has none of this name."""
-    call = getattr(_library, name, None)
-    return None if call is None else ctypes.cast(call, ctypes.c_void_p).value
+    """Where a call of the library is."""
+    return ctypes.cast(getattr(_library, name), ctypes.c_void_p).value
 
 
 def _own(numbers, kind):
@@ -116,22 +125,24 @@ def bids_for(bids, persons):
     return max(bids, BIDS_EACH * persons) if bids == USUAL_BIDS else bids
 
 
-def solve_arcs(persons, objects, arcs, start, bids):
+def solve_arcs(persons, objects, arcs, start, bids, watch=None):
     """The status, places of arcs or persons, prices, objects, and what was found.
 
-    arcs: an array of ARC that nobody else writes; start: whole numbers, none or a price of each object, in units of costs times persons + 1.
+    arcs: an array of ARC that nobody else writes; start: whole numbers, none or a price of each object, in units of costs times persons + 1;
+    watch: a Watch, or None.
     """
     start, bids = _own(start, numpy.int64), bids_for(bids, persons)
     choice, hall_objects = numpy.zeros(persons, numpy.uint32), numpy.zeros(persons, numpy.uint32)
     prices, found = numpy.zeros(objects, numpy.int64), Found()
-    status = call_waiting(len(arcs) >= FEWEST, _solve, persons, objects, (arcs, start), bids, (choice, prices, hall_objects), found)
+    status = call_waiting(len(arcs) >= FEWEST, watch, _solve, persons, objects, (arcs, start), bids, (choice, prices, hall_objects), found)
     if status not in (OPTIMAL, INFEASIBLE, BRACKET):
         _refuse(status, found)
     return status, choice, prices, hall_objects, found
 
 
-def _solve(persons, objects, given, bids, places, found):
-    return _library.sigdorf_solve(persons, objects, *_passed(*given), bids, *_passed(*places), ctypes.byref(found))
+def _solve(persons, objects, given, bids, places, found, watch):
+    watched = ctypes.byref(Watched(*(watch or NO_WATCH)))
+    return _library.sigdorf_solve_watched(persons, objects, *_passed(*given), bids, watched, *_passed(*places), ctypes.byref(found))
 
 
 def check_arcs(persons, objects, arcs, choice, prices, cost):

@@ -8,11 +8,11 @@ import numpy
 
 from . import fast
 from .arguments import number, truth
-from .asked import bids_of
-from .assignment import solve
+from .asked import Asked, bids_of
 from .faults import note
 from .library import USUAL_BIDS
 from .solution import Solution
+from .waiting import Watch
 
 MOST_THREADS = 1024
 # Of arrays that the extension solves in one call: so many entries and so many arrays at most, and so few entries that no more calls are worth while;
@@ -47,14 +47,18 @@ def solve_many(
     words = {"maximize": truth(maximize, "maximize"), "decimals": decimals, "bids": bids_of(bids)}
     parts = _parts(problems, words, threads)
     if threads == 1 or len(parts) < 2:
-        return _in_order(problems, parts, [_solved(problems, part, words) for part in parts])
-    pool = concurrent.futures.ThreadPoolExecutor(threads)
+        return _in_order(problems, parts, [_solved(problems, part, words, None) for part in parts])
+    pool, watch = concurrent.futures.ThreadPoolExecutor(threads), Watch()
+    stop = watch.stopping()
     try:
-        answers = [pool.submit(_solved, problems, part, words) for part in parts]
+        answers = [pool.submit(_solved, problems, part, words, watch) for part in parts]
         return _in_order(problems, parts, [answer.result() for answer in answers])
+    except BaseException:
+        # After a fault or Ctrl-C what is under way ends.
+        stop.write()
+        raise
     finally:
-        # After a fault or Ctrl-C nobody waits for what is under way.
-        pool.shutdown(wait=False, cancel_futures=True)
+        pool.shutdown(cancel_futures=True)
 
 
 def _parts(problems, words, threads):
@@ -76,18 +80,20 @@ def _parts(problems, words, threads):
     return parts
 
 
-def _solved(problems, part, words):
+def _solved(problems, part, words, watch):
     """The Solutions of a part, together where that can be."""
     together = [None] * len(part)
     if len(part) > 1:
-        together = fast.solutions_of([fast.plain(problems[number]) for number in part], words["maximize"])
-    return [_solved_alone(problems, number, words) if solution is None else solution for number, solution in zip(part, together)]
+        together = fast.solutions_of([fast.plain(problems[number]) for number in part], words["maximize"], watch)
+    return [_solved_alone(problems, number, words, watch) if solution is None else solution for number, solution in zip(part, together)]
 
 
-def _solved_alone(problems, number, words):
+def _solved_alone(problems, number, words, watch):
     problem = problems[number]
     try:
-        return solve(*problem, **words) if isinstance(problem, tuple) else solve(problem, **words)
+        lists = problem if isinstance(problem, tuple) else (problem,)
+        asked = Asked(*lists, maximize=words["maximize"], decimals=words["decimals"])
+        return asked.solution(None, words["bids"], watch=watch)
     except Exception as fault:
         note(fault, f"in problem {number}")
         raise

@@ -91,15 +91,15 @@ class Problem:
         """How many units of the costs are one of the caller's, where costs have decimals."""
         return 10**self.costs.decimals if isinstance(self.costs, DecimalCosts) else 1
 
-    def answered(self, start, bids, words):
+    def answered(self, start, bids, words, watch):
         """The :class:`~.exact.Answer` of the solver. Raises Infeasible, with these words.
 
-        start: prices in units of whole costs, floats in the unit of the costs, or None.
+        start: prices in units of whole costs, floats in the unit of the costs, or None; watch: a Watch, or None.
         """
         if self.persons == 0:
             return Answer(numpy.zeros(0, numpy.int64), [(numpy.zeros(self.objects, numpy.int64), 0)], 1, 0)
         try:
-            return solve_costs(self.persons, self.objects, self.arcs, self.costs, self._in_units(start), bids)
+            return solve_costs(self.persons, self.objects, self.arcs, self.costs, self._in_units(start), bids, watch)
         except NoAssignment as fault:
             persons, objects = fault.persons, fault.objects
         rows, columns = (objects, persons) if self.by_columns else (persons, objects)
@@ -127,9 +127,9 @@ class Problem:
         order = numpy.argsort(taken)
         return taken[order], order, choice[order]
 
-    def solution(self, start, bids, words):
+    def solution(self, start, bids, words, watch=None):
         """The Solution, by the library's calls for lists."""
-        answer = self.answered(start, bids, words)
+        answer = self.answered(start, bids, words, watch)
         cost = self.costs.total(answer.choice)
         shown = self.costs.shown(cost)
         told = self.costs.shown_bound(cost - self.sign * answer.gap) if answer.gap else shown

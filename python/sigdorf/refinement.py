@@ -48,12 +48,12 @@ class Level:
             self.pick = (numpy.cumsum(keep) - 1)[self.pick]
             self.place, self.person, self.object, self.slack, self.tail = (part[keep] for part in (self.place, self.person, self.object, self.slack, self.tail))
 
-    def finer(self, bids):
+    def finer(self, bids, watch):
         """The next level, and by how much it changes prices: objects, and whole numbers of its unit. Raises OutOfBids."""
         self._drop_far()
         unit, slack, tail = self._in_finer_unit()
         price = _scaled(self.price, unit - self.unit)
-        pick, worth, change = Near(self.person, self.object, slack, self.pick, price).solved(bids)
+        pick, worth, change = Near(self.person, self.object, slack, self.pick, price).solved(bids, watch)
         slack = slack + change[self.object] - worth[self.person]
         if self.objects > self.persons:
             price = numpy.minimum(price + change, PLENTY)

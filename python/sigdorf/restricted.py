@@ -45,9 +45,8 @@ class Restricted:
         self._some, places = self._placed(
             self._allowed(Pairs(asked, forced, "forced"), Pairs(asked, forbidden, "forbidden"))
         )
-        self.costs = lists.costs[self._some]
         self._inner = Asked.of_lists(
-            Lists(lists.rows[self._some], places, self.costs, self.sides), asked.maximize, asked.decimals
+            Lists(lists.rows[self._some], places, lists.costs[self._some], self.sides), asked.maximize, asked.decimals
         )
 
     def _allowed(self, forced, forbidden):
@@ -92,10 +91,10 @@ class Restricted:
             raise ValueError(START_FAULTS[2])
         return self._inner.start_of(numpy.repeat(start, self._capacity))
 
-    def solution(self, start, bids):
+    def solution(self, start, bids, watch=None):
         """The Solution, in the caller's entries."""
         try:
-            found = self._inner.solution(start, bids)
+            found = self._inner.solution(start, bids, watch=watch)
         except Infeasible as fault:
             columns = numpy.unique(numpy.searchsorted(self._first + self._capacity, fault.columns, "right"))
             raise self._infeasible(fault.rows, columns, fault.by_columns) from None

@@ -34,9 +34,9 @@ def arcs_of(persons, objects, costs):
     return arcs
 
 
-def solve_whole(persons, objects, arcs, start, bids):
+def solve_whole(persons, objects, arcs, start, bids, watch=None):
     """What the library finds. Raises NoAssignment."""
-    status, choice, prices, hall_objects, found = solve_arcs(persons, objects, arcs, start, bids)
+    status, choice, prices, hall_objects, found = solve_arcs(persons, objects, arcs, start, bids, watch)
     if status == INFEASIBLE:
         raise NoAssignment(choice[: found.persons].astype(numpy.int64), hall_objects[: found.objects].astype(numpy.int64))
     return Found(choice.astype(numpy.int64), prices, found.cost, found.lower if status == BRACKET else found.cost)

@@ -21,8 +21,8 @@ if numpy:
     from sigdorf.amounts import exact_sum
 
 SIZE, WORD = ctypes.c_size_t, ctypes.c_void_p
-# The words of sigdorf_solve_dense; addresses are whole numbers.
-DENSE = [ctypes.c_uint32, ctypes.c_uint32, WORD, SIZE, SIZE, ctypes.c_int64, WORD, SIZE, ctypes.c_uint64, WORD, SIZE, WORD, SIZE, WORD, SIZE, WORD]
+# The words of sigdorf_solve_dense_watched; addresses are whole numbers.
+DENSE = [ctypes.c_uint32, ctypes.c_uint32, WORD, SIZE, SIZE, ctypes.c_int64, WORD, SIZE, ctypes.c_uint64, WORD, WORD, SIZE, WORD, SIZE, WORD, SIZE, WORD]
 KINDS = ("i1", "u1", "i2", "u2", "i4", "u4", "i8", "u8", "?", "f4", "f8", ">i4", ">f8", "f2", "g")
 
 
@@ -251,7 +251,7 @@ class Fast(Limited):
     def test_other_statuses(self):
         """Whatever the library answers but a least assignment is looked at by Python."""
         kind = ctypes.CFUNCTYPE(ctypes.c_int32)
-        real = fast.address_of("sigdorf_solve_dense"), fast.address_of("sigdorf_solve")
+        real = fast.address_of("sigdorf_solve_dense_watched"), fast.address_of("sigdorf_solve_watched")
         matrix = numpy.array([[1.5, 2.25], [1.1, 4.7]])
         for status in (2, 3, 4, 5, 6, 7, 99):
             call = kind(lambda: status)
@@ -267,12 +267,12 @@ class Fast(Limited):
 
     def test_raised_prices(self):
         """A limit's answer is the same where all prices of a square table are higher, which the library may answer too."""
-        kind, real = ctypes.PYFUNCTYPE(ctypes.c_int32, *DENSE), (fast.address_of("sigdorf_solve_dense"), fast.address_of("sigdorf_solve"))
+        kind, real = ctypes.PYFUNCTYPE(ctypes.c_int32, *DENSE), (fast.address_of("sigdorf_solve_dense_watched"), fast.address_of("sigdorf_solve_watched"))
         solve_dense, calls = kind(real[0]), []
 
         def raised(*words):
             calls.append(words[:2])
-            status, prices = solve_dense(*words), (ctypes.c_int64 * words[12]).from_address(words[11])
+            status, prices = solve_dense(*words), (ctypes.c_int64 * words[13]).from_address(words[12])
             for place in range(len(prices)):
                 prices[place] += 77 * (words[0] + 1) + 5
             return status

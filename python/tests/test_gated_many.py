@@ -247,7 +247,7 @@ class Together(Limited):
 
     def test_other_statuses(self):
         """Whatever the library answers but a least assignment is looked at by Python."""
-        kind, real = ctypes.CFUNCTYPE(ctypes.c_int32), (fast.address_of("sigdorf_solve_dense"), fast.address_of("sigdorf_solve"))
+        kind, real = ctypes.CFUNCTYPE(ctypes.c_int32), (fast.address_of("sigdorf_solve_dense_watched"), fast.address_of("sigdorf_solve_watched"))
         tables = [numpy.array([[1.5, 2.25], [1.1, 4.7]])] * 5
         wanted = sigdorf.match_many(tables, 3.0)
         for status in (2, 3, 4, 5, 6, 7, 99):

@@ -1,10 +1,8 @@
-"""What a call tells, in names where there are some, and how it is left: tables with names, faults, and Ctrl-C."""
+"""What a call tells, in names where there are some: tables with names, and faults; and calls after a fork."""
 import pathlib
 import pickle
-import signal
 import subprocess
 import sys
-import time
 import unittest
 
 from limited import Limited, numpy, scipy, sigdorf
@@ -13,27 +11,6 @@ try:
     import pandas
 except ImportError:
     pandas = None
-
-# A search that takes three seconds of the library's, for a table that is long enough to be waited for. The extension calls the library by address.
-LONG = """
-import ctypes, signal, time, numpy, sigdorf
-from sigdorf import fast, library
-# Whoever runs the tests in the background may have it ignored.
-signal.signal(signal.SIGINT, signal.default_int_handler)
-sleep = lambda *_: ctypes.CDLL(None).usleep(3_000_000)
-library._library.sigdorf_solve = sleep
-call = ctypes.CFUNCTYPE(ctypes.c_int32)(sleep)
-address = ctypes.cast(call, ctypes.c_void_p).value
-if fast.is_there():
-    fast._extension.bind(address, address)
-try:
-    print("begun", flush=True)
-    sigdorf.linear_sum_assignment(numpy.ones((300, 300)))
-except KeyboardInterrupt:
-    # At once, since the thread that still sleeps may end the interpreter's end early, where the signal woke it.
-    print(time.monotonic(), flush=True)
-"""
-
 
 class Frame:
     """What pandas' DataFrame is to a caller."""
@@ -138,18 +115,6 @@ class Wanting(unittest.TestCase):
         done = subprocess.run([sys.executable, "-B", "-c", program], capture_output=True, text=True)
         self.assertEqual(done.stderr.splitlines()[-1], "ModuleNotFoundError: sigdorf wants numpy: pip install numpy, or Debian's python3-numpy")
         self.assertLess(len(done.stderr.splitlines()), 8)
-
-
-class Interrupted(Limited):
-    def test_keyboard(self):
-        """Ctrl-C raises at once, though the library's call goes on."""
-        child = subprocess.Popen([sys.executable, "-B", "-c", LONG], stdout=subprocess.PIPE, text=True)
-        self.assertEqual(child.stdout.readline(), "begun\n")
-        time.sleep(0.3)
-        sent = time.monotonic()
-        child.send_signal(signal.SIGINT)
-        told = child.communicate(timeout=30)[0]
-        self.assertLess(float(told) - sent, 1.0)
 
 
 FORKED = """

@@ -28,7 +28,7 @@ def same(one, other):
 
 def handed_over(asked, start):
     """The costs of a table and the start that the extension hands over to the library."""
-    kept, real = [], [fast.address_of(name) for name in ("sigdorf_solve_dense", "sigdorf_solve")]
+    kept, real = [], [fast.address_of(name) for name in ("sigdorf_solve_dense_watched", "sigdorf_solve_watched")]
 
     @ctypes.CFUNCTYPE(ctypes.c_int32, *DENSE)
     def call(persons, objects, costs, count, stride, gap, prices, starts, *others):

@@ -7,7 +7,7 @@ from limited import Limited, numpy, scipy, sigdorf
 from test_fast import without
 
 if numpy:
-    from sigdorf import assignment, fast, library
+    from sigdorf import fast, library
 
 MOST = 4_194_304
 
@@ -215,13 +215,6 @@ class Bids(Limited):
             sigdorf.solve([0, 1], [0, 1], [1, 2])
         self.assertEqual(called.call_args[0][3], sigdorf.USUAL_BIDS)
 
-    def test_slices(self):
-        """The last of many slices has as many."""
-        with unittest.mock.patch.object(assignment, "solve_in_slices") as called:
-            sigdorf.solve([0], [0], [1], (self.ROWS, self.ROWS), seconds=1)
-            sigdorf.solve([0], [0], [1], seconds=1)
-        self.assertEqual([call[0][1]._most for call in called.call_args_list], [1_000 * self.ROWS, sigdorf.USUAL_BIDS])
-
     def test_extension(self):
         if not fast.is_there():
             self.skipTest("the extension isn't used")
@@ -229,7 +222,7 @@ class Bids(Limited):
         kind = ctypes.CFUNCTYPE(ctypes.c_int32, number, number, pointer, size, pointer, size, ctypes.c_uint64)
         # It answers that there is no memory, so that Python does it.
         call = kind(lambda persons, objects, arcs, count, start, starts, bids: seen.append(bids) or library.MEMORY)
-        real = fast.address_of("sigdorf_solve_dense"), fast.address_of("sigdorf_solve")
+        real = fast.address_of("sigdorf_solve_dense_watched"), fast.address_of("sigdorf_solve_watched")
         fast._extension.bind(real[0], ctypes.cast(call, ctypes.c_void_p).value)
         try:
             for bids in (None, 77, 10**9):

@@ -54,7 +54,6 @@ pub fn solve_call<W: Watch>(
         choice.new prices.new found.new.kind found.new.lower found.new.cost) }
     ensures asked { (result ≡ pos 0) ⊎ (result ≡ pos 4)
         → WasAsked (W.was_asked run.new.watch) (listed_problem given.now) }
-    ensures kept { (run.new.start.now ≡ run.old.start.now) × (run.new.bids ≡ run.old.bids) }
 {
     let solved = solve_into(
         alloc,
@@ -90,7 +89,6 @@ pub fn solve_by_messages_call<W: Watch>(
     ensures run { result ≢ pos 2 → result ≢ pos 5 → result ≢ pos 6 → result ≢ pos 7
         → IsRunTold (listed_problem given.now) run.old.start.now run.old.bids
         (memory choice.new prices.new hall_objects.new) result found.old found.new }
-    ensures kept { (run.new.start.now ≡ run.old.start.now) × (run.new.bids ≡ run.old.bids) }
 {
     let solved = solve_into(
         alloc,

@@ -36,7 +36,6 @@ fn answer_directly<W: Watch>(
     ensures run { IfOk result
         (IsAnswerBy Driver.Direct problem.now run.old.start.now run.old.bids (W.has_stopped run.new.watch)
         (W.was_asked run.new.watch)) }
-    ensures kept { (run.new.start.now ≡ run.old.start.now) × (run.new.bids ≡ run.old.bids) }
 {
     let limits = DirectLimits { bids: run.bids };
     if run.start.is_empty() {
@@ -78,7 +77,6 @@ pub(crate) fn answer_of<W: Watch>(
     ensures run { IfOk result
         (IsAnswerBy driver problem.now run.old.start.now run.old.bids (W.has_stopped run.new.watch)
         (W.was_asked run.new.watch)) }
-    ensures kept { (run.new.start.now ≡ run.old.start.now) × (run.new.bids ≡ run.old.bids) }
 {
     match driver {
         Driver::Direct => answer_directly(alloc, problem, run),

@@ -56,7 +56,6 @@ pub fn solve_problem<W: Watch>(
     ensures run { IfOk result
         (IsSolvedBy driver problem.now run.old.start.now run.old.bids (W.has_stopped run.new.watch)
         (W.was_asked run.new.watch) (memory choice.new prices.new set.new)) }
-    ensures kept { (run.new.start.now ≡ run.old.start.now) × (run.new.bids ≡ run.old.bids) }
 {
     if let Some(fault) = start_fault_by(driver, problem, run.start) {
         return Err(Failed::Start(fault));
@@ -80,7 +79,6 @@ pub(crate) fn solve_into<W: Watch>(
     ensures run { IfOk result
         (IsSolvedBy driver (listed_problem given.now) run.old.start.now run.old.bids (W.has_stopped run.new.watch)
         (W.was_asked run.new.watch) (memory choice.new prices.new set.new)) }
-    ensures kept { (run.new.start.now ≡ run.old.start.now) × (run.new.bids ≡ run.old.bids) }
 {
     let wanted = objects_or(given.objects, given.persons) as usize;
     let places = given.persons as usize;

@@ -51,7 +51,6 @@ pub fn solve_table_call<W: Watch>(
         (ByObjects (tabled_problem given.now).arcs choice.new
         (λ places. IsLimitTold (tabled_problem given.now) run.old.start.now run.old.bids
         places prices.new found.new.kind found.new.lower found.new.cost)) }
-    ensures kept { (run.new.start.now ≡ run.old.start.now) × (run.new.bids ≡ run.old.bids) }
 {
     let solved = solve_table_into(alloc, given, run, choice, prices, hall_objects);
     tell_solved(solved, found)

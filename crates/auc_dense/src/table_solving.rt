@@ -72,7 +72,6 @@ fn solve_arcs<W: Watch>(
     requires { AreSizes problem.now (memory choice.old prices.old set.old) }
     ensures solves { SolvesArcs problem.now run.old.start.now run.old.bids (W.has_stopped run.new.watch)
         (memory choice.old prices.old set.old) (memory choice.new prices.new set.new) result }
-    ensures kept { (run.new.start.now ≡ run.old.start.now) × (run.new.bids ≡ run.old.bids) }
 {
     let solved = solve_problem(alloc, Driver::Direct, problem, run, choice, prices, set)?;
     name_objects(problem.arcs(), solved, choice);
@@ -92,7 +91,6 @@ pub(crate) fn solve_table_into<W: Watch>(
     ensures solves { SolvesTable (tabled_problem given.now) given.now.stride (length given.now.costs.now)
         run.old.start.now run.old.bids (W.has_stopped run.new.watch) (memory choice.old prices.old set.old)
         (memory choice.new prices.new set.new) result }
-    ensures kept { (run.new.start.now ≡ run.old.start.now) × (run.new.bids ≡ run.old.bids) }
 {
     let GivenTable {
         persons,

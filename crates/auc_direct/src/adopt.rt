@@ -58,8 +58,9 @@ fn scaled_prices(rows: &FlatRows, mut prices: Vec<i64>) -> Option<Vec<i64>>
 }
 
 /// Solves a full table by a search that may scan as much as `scans_of_table` says, and tries its proposal. The search
-/// begins at scaled start prices, where there are such. None where the rows aren't a full table, where the proposal doesn't show a least assignment, or after a no.
-/// Takes O(persons * objects) time and 8 bytes of memory an arc beside the search.
+/// begins at scaled start prices, where there are such. None where the rows aren't a full table, where the proposal
+/// doesn't show a least assignment, or after a no. Takes O(persons * objects) time and 8 bytes of memory an arc beside
+/// the search.
 ///
 /// # Errors
 ///
@@ -116,7 +117,7 @@ pub(crate) enum Searched {
     Adopted(Holdings),
     /// The watch has said no.
     Ended,
-    /// The rows aren't a full table, or what was proposed doesn't stand.
+    /// The rows aren't a full table, or the proposal doesn't show a least assignment.
     Nothing,
 }
 

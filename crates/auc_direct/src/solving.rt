@@ -227,9 +227,9 @@ pub fn solve_direct(
 /// A limit on bids counts from the prices that are left then: clause `limit`. With as many objects as persons these are
 /// the start's.
 ///
-/// With as many objects as persons, four bids a person may not give each person an object. Then a full table is searched
-/// as a table, from the start where this gives a greater lower bound than prices of 0. Else the run goes on from the
-/// prices that are left in phases, as one without a start does.
+/// With as many objects as persons, four bids a person may not give each person an object. Then a full table is
+/// searched as a table, from the start where this gives a greater lower bound than prices of 0. Else the run goes on
+/// from the prices that are left in phases, as one without a start does.
 ///
 /// Takes two passes over the arcs for what persons keep, and with more objects than persons up to eight more; beside
 /// that the time and memory of [`solve_direct`].

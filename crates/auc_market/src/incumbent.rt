@@ -19,8 +19,8 @@ pub(crate) struct Incumbent {
     pub(crate) best: Option<Best>,
 }
 
-/// What an assignment by these arcs shows, with as many objects as persons. It costs at most persons * eps more than the
-/// least one, by epsilon-complementary slackness.
+/// What an assignment by these arcs shows, with as many objects as persons. It costs at most persons * eps more than
+/// the least one, by epsilon-complementary slackness.
 fn best_at(owns: &[ShortArc], eps: i64) -> Best {
     let mut cost: i64 = 0;
     for own in owns {

@@ -62,8 +62,8 @@ fn play<P: Pause, const G: bool>(
     }
 }
 
-/// The least eps that is worth a phase, at this mean spread of a row. Where costs are random, neighbouring ones differ by
-/// the spread divided by the number of objects.
+/// The least eps that is worth a phase, at this mean spread of a row. Where costs are random, neighbouring ones differ
+/// by the spread divided by the number of objects.
 fn last_eps(table: &Table, spread: i64) -> i64 {
     let between = spread.checked_div(i64::from(table.objects)).unwrap_or(0);
     between.checked_div(EPS_DIVISOR).unwrap_or(0)

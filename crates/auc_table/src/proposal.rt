@@ -49,8 +49,8 @@ enum Paths {
 }
 
 /// The persons who have nothing, so many, each take a path. Once paths have scanned a quarter of what is left of
-/// `scans`, they are given up where others as long as their mean, and as the last one, would come to more than that. The
-/// first ones may be long.
+/// `scans`, they are given up where others as long as their mean, and as the last one, would come to more than that.
+/// The first ones may be long.
 fn augment<P: Pause, const G: bool>(
     table: &Table,
     market: &mut Market,

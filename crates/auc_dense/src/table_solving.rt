@@ -70,7 +70,7 @@ fn solve_arcs<W: Watch>(
     set: &mut [u32],
 ) -> Result<Solved, Failed>
     requires { AreSizes problem.now (memory choice.old prices.old set.old) }
-    ensures solves { SolvesArcs problem.now run.old.start.now run.old.bids (W.has_stopped run.new.watch)
+    ensures { SolvesArcs problem.now run.old.start.now run.old.bids (W.has_stopped run.new.watch)
         (memory choice.old prices.old set.old) (memory choice.new prices.new set.new) result }
 {
     let solved = solve_problem(alloc, Driver::Direct, problem, run, choice, prices, set)?;
@@ -88,7 +88,7 @@ pub(crate) fn solve_table_into<W: Watch>(
     prices: &mut [i64],
     set: &mut [u32],
 ) -> Result<Solved, Failed>
-    ensures solves { SolvesTable (tabled_problem given.now) given.now.stride (length given.now.costs.now)
+    ensures { SolvesTable (tabled_problem given.now) given.now.stride (length given.now.costs.now)
         run.old.start.now run.old.bids (W.has_stopped run.new.watch) (memory choice.old prices.old set.old)
         (memory choice.new prices.new set.new) result }
 {

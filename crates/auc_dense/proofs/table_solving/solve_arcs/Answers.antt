@@ -9,8 +9,8 @@ pub name_objects-requires : goal.name_objects-requires
 name_objects-requires g c =
     rw c.arcs.ensures.arcs (named_places c.args.problem.now (memory c.args.choice.now c.args.prices.now c.args.set.now) (memory c.solve_problem.new.choice c.solve_problem.new.prices c.solve_problem.new.set) c.in_ok-solved.solved c.in_ok-solved.ensures.runs.1)
 
-pub returns-clause-solves : goal.returns-clause-solves
-returns-clause-solves g c =
+pub returns : goal.returns
+returns g c =
     let runs = c.in_ok-solved.ensures.runs in
     let limited = c.in_ok-solved.ensures.run.0 in
     let objects_are = c.name_objects.ensures ∙ ap (λ (xs : List Arc). named xs c.in_ok-solved.solved c.solve_problem.new.choice) c.arcs.ensures.arcs in (

@@ -6,8 +6,8 @@ use Rattle.auc_dense.specs.Table.{IsTable, table_problem}
 use Rattle.auc_dense.specs.TableSolving.{AreTableSizes}
 use Rattle.auc_dense.proofs.table_solving.solve_table_into.Goals as goal
 
-pub returns-in-Some-clause-solves : goal.returns-in-Some-clause-solves
-returns-in-Some-clause-solves g c =
+pub returns-in-Some : goal.returns-in-Some
+returns-in-Some g c =
     let gap_fits : FitsSigned w64 c.args.given.now.gap = search rules in
     let cost_fits : FitsSigned w64 c.in-Some.cost = search rules in
     let wanted = c.objects_or-wanted.ensures in

@@ -75,7 +75,7 @@ pub extern "C" fn sigdorf_solve(
 /// `watch.stopped` is 1, and the status is that of a bracket with the kind of a limit on bids, or that there is no
 /// assignment: clause `limit`. Clause `asked` says when `watch.asked` may be 0.
 #[unsafe(no_mangle)]
-pub extern "C" fn sigdorf_solve_watched(
+pub extern "C" fn sigdorf_solve_by_watch(
     alloc: Global,
     persons: u32,
     objects: u32,
@@ -99,7 +99,7 @@ pub extern "C" fn sigdorf_solve_watched(
     ensures asked { (result ≡ pos 0) ⊎ (result ≡ pos 4)
         → WasAsked (not (watch.new.asked == 0)) (problem_from persons objects arcs.now) }
     ensures stopped { (watch.new.stopped ≡ 0) ⊎ (watch.new.stopped ≡ 1) }
-    ensures kept { (watch.new.until ≡ watch.old.until) × (watch.new.stop ≡ watch.old.stop)
+    ensures kept { (watch.new.timer ≡ watch.old.timer) × (watch.new.stop ≡ watch.old.stop)
         × (watch.new.progress ≡ watch.old.progress) }
 {
     let given = GivenArcs {
@@ -165,10 +165,10 @@ pub extern "C" fn sigdorf_solve_dense(
     )
 }
 
-/// Solves as [`sigdorf_solve_dense`] does, under a watch, as [`sigdorf_solve_watched`] does: it is asked as
+/// Solves as [`sigdorf_solve_dense`] does, under a watch, as [`sigdorf_solve_by_watch`] does: it is asked as
 /// [`auc_dense::solve_table_call`] says.
 #[unsafe(no_mangle)]
-pub extern "C" fn sigdorf_solve_dense_watched(
+pub extern "C" fn sigdorf_solve_dense_by_watch(
     alloc: Global,
     persons: u32,
     objects: u32,
@@ -193,7 +193,7 @@ pub extern "C" fn sigdorf_solve_dense_watched(
         (λ places. IsLimitTold (table_problem persons objects costs.now stride none) start.now bids
         places prices.new found.new.kind found.new.lower found.new.cost) }
     ensures stopped { (watch.new.stopped ≡ 0) ⊎ (watch.new.stopped ≡ 1) }
-    ensures kept { (watch.new.until ≡ watch.old.until) × (watch.new.stop ≡ watch.old.stop)
+    ensures kept { (watch.new.timer ≡ watch.old.timer) × (watch.new.stop ≡ watch.old.stop)
         × (watch.new.progress ≡ watch.old.progress) }
 {
     let given = GivenTable {

@@ -1,20 +1,21 @@
-//! What a C program watches a call by: a time, a descriptor that ends the search, and one to which progress is written.
+//! What a C program watches a call by: descriptors that end the search, and one to which progress is written.
 
 ghost use Rattle.std.specs.Prelude.{◌≡◌, false, if◌then◌else◌};
 ghost use Rattle.sigdorf_c.specs.Watch.{has_stopped, was_asked};
 
 use auc_call::{Progress, Watch};
 
-/// What a C program sets for a call, and what the call writes there: `sigdorf_watch`.
+/// What a C program sets for a call, and what the call writes there. No descriptor may block.
 #[repr(C)]
 #[derive(Clone, Copy, Debug, PartialEq, Eq)]
 pub struct Watching {
-    /// The nanoseconds of the monotonic clock at which the search ends; 0: never.
-    pub until: i64,
-    /// A descriptor that ends the search as soon as there is something to read, or an error; -1: none.
+    /// A descriptor, as of a timer, that ends the search as soon as something can be read from it; -1: none. Up to
+    /// eight bytes are read.
+    pub timer: i32,
+    /// Another one.
     pub stop: i32,
-    /// A descriptor to which the progress is written at each question, by one write; -1: none. The search waits for the
-    /// write, and one to a pipe that nobody reads raises SIGPIPE.
+    /// A descriptor to which the progress is written at each question, by one write; -1: none. One to a pipe that nobody
+    /// reads raises SIGPIPE.
     pub progress: i32,
     /// 1 where the watch has said no in the call, else 0.
     pub stopped: u32,
@@ -28,7 +29,7 @@ impl Watching {
         ensures { has_stopped result ≡ false }
     {
         Lookout {
-            until: self.until,
+            timer: self.timer,
             stop: self.stop,
             progress: self.progress,
             has_stopped: false,
@@ -40,7 +41,7 @@ impl Watching {
     pub(crate) fn end(&mut self, lookout: &Lookout)
         ensures stopped { self.new.stopped ≡ (if has_stopped lookout.now then 1 else 0) }
         ensures asked { self.new.asked ≡ lookout.now.asked }
-        ensures kept { (self.new.until ≡ self.old.until) × (self.new.stop ≡ self.old.stop)
+        ensures kept { (self.new.timer ≡ self.old.timer) × (self.new.stop ≡ self.old.stop)
             × (self.new.progress ≡ self.old.progress) }
     {
         self.stopped = if lookout.has_said_no() { 1 } else { 0 };
@@ -51,50 +52,23 @@ impl Watching {
 /// The watch over one call.
 #[derive(Drop)]
 pub(crate) struct Lookout {
-    until: i64,
+    timer: i32,
     stop: i32,
     progress: i32,
     has_stopped: bool,
     asked: u32,
 }
 
+/// Whether something could be read from a descriptor.
+fn has_word(descriptor: i32) -> bool {
+    descriptor != -1 && io::read_full(descriptor, &mut [0; 8]) > 0
+}
+
 impl Lookout {
-    /// Whether the time is up. Where the clock can't be read, it is: the answer is a right one all the same.
-    fn is_late(&self) -> bool {
-        if self.until == 0 {
-            return false;
-        }
-        let mut time = libc::types::timespec {
-            tv_sec: 0,
-            tv_nsec: 0,
-        };
-        if libc::clock_gettime(libc::CLOCK_MONOTONIC, &mut time) != 0 {
-            return true;
-        }
-        let nanos = time
-            .tv_sec
-            .saturating_mul(1_000_000_000)
-            .saturating_add(time.tv_nsec);
-        self.until <= nanos
-    }
-
-    /// Whether there is something to read where a stop comes from.
-    fn is_told_to_stop(&self) -> bool {
-        if self.stop == -1 {
-            return false;
-        }
-        let mut polled = [libc::types::pollfd {
-            fd: self.stop,
-            events: libc::net::POLLIN,
-            revents: 0,
-        }];
-        libc::net::poll(&mut polled, 0) > 0
-    }
-
     /// Writes the progress by one write, whose result doesn't matter: nobody may read it.
     fn tell_progress(&self, progress: Progress) {
         if self.progress != -1 {
-            let _ = libc::write(self.progress, &bytes_of(progress));
+            let _ = io::write_all(self.progress, &bytes_of(progress));
         }
     }
 }
@@ -127,7 +101,7 @@ impl Watch for Lookout {
     fn goes_on(&mut self, progress: Progress) -> bool {
         self.asked = self.asked.saturating_add(1);
         self.tell_progress(progress);
-        self.has_stopped = self.is_late() || self.is_told_to_stop();
+        self.has_stopped = has_word(self.timer) || has_word(self.stop);
         !self.has_stopped
     }
 }

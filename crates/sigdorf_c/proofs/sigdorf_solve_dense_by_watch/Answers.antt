@@ -3,7 +3,7 @@ use Rattle.std.specs.Prelude.{FitsSigned}
 use Rattle.std.proofs.lemmas.Int.{to_z-of_z}
 use Rattle.sigdorf_c.specs.Watch.{has_stopped}
 use Rattle.sigdorf_c.proofs.WatchLaws.{is_flag, stop_told}
-use Rattle.sigdorf_c.proofs.sigdorf_solve_dense_watched.Goals as goal
+use Rattle.sigdorf_c.proofs.sigdorf_solve_dense_by_watch.Goals as goal
 
 pub returns-clause-told : goal.returns-clause-told
 returns-clause-told c =

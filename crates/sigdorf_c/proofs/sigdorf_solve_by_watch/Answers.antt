@@ -4,7 +4,7 @@ use Rattle.std.proofs.lemmas.Int.{to_z-of_z}
 use Rattle.auc_graph.specs.InMemory.{problem_from}
 use Rattle.sigdorf_c.specs.Watch.{has_stopped}
 use Rattle.sigdorf_c.proofs.WatchLaws.{asked_told, is_flag, stop_told}
-use Rattle.sigdorf_c.proofs.sigdorf_solve_watched.Goals as goal
+use Rattle.sigdorf_c.proofs.sigdorf_solve_by_watch.Goals as goal
 
 pub returns-clause-limit : goal.returns-clause-limit
 returns-clause-limit c = λ four.

@@ -3,9 +3,9 @@
  * What is proved holds of a call that keeps the duties below, and of no other. Nothing on this side of the border is seen by the
  * prover: this file is written by hand, and `c/test` tries its numbers against the library.
  *
- * PROVED: the seven calls of whole numbers. TESTED ONLY: the four calls of doubles, sigdorf_solve_dense_f64,
- * sigdorf_solve_dense_f64_watched, sigdorf_match and sigdorf_match_many. They are plain C around the proved calls: each
- * search in whole numbers is proved, and how doubles become whole numbers is not.
+ * PROVED: the seven calls of whole numbers, but for what the two watched ones make of their watch. TESTED ONLY: the four
+ * calls of doubles, sigdorf_solve_dense_f64, sigdorf_solve_dense_f64_watched, sigdorf_match and sigdorf_match_many. They
+ * are plain C around the proved calls: each search in whole numbers is proved, and how doubles become whole numbers is not.
  *
  * DUTIES of the caller, for each call:
  *   1  Each pointer is not null, is aligned as its type, and leads to as many whole values as the length after it says. A length of 0
@@ -72,11 +72,12 @@ typedef struct sigdorf_found_f64 {
     uint32_t place;   /* SIGDORF_REFUSED: the entry that is at fault, or 0 */
 } sigdorf_found_f64;
 
-/* What ends a search before its own end, and to whom it says how far it is. It is asked before each phase, and each time that some 4 million
- * arcs or entries were looked at, which takes some milliseconds. 24 bytes. */
+/* What ends a search before its own end, and to whom it says how far it is. It is asked before each phase, and each time that some
+ * 4 million arcs or entries were looked at, which takes some milliseconds. 24 bytes. */
 typedef struct sigdorf_watch {
     int64_t until;    /* when the search ends, in nanoseconds of CLOCK_MONOTONIC, as sigdorf_until has it; 0: never */
-    int32_t stop;     /* a descriptor that ends the search as soon as poll tells POLLIN of it, or an error or hang-up; -1: none */
+    int32_t stop;     /* a descriptor that ends the search as soon as there is something to read, of which up to 8 bytes are read; -1:
+                         none. It is set not to block (O_NONBLOCK) */
     int32_t progress; /* a descriptor to which each time a sigdorf_progress is written, by one write; -1: none. It should not block
                          (O_NONBLOCK): what it doesn't take is lost */
     uint32_t stopped; /* written: 1 where the watch has ended the search, else 0 */
@@ -194,8 +195,9 @@ int32_t sigdorf_solve_dense(uint32_t persons, uint32_t objects, const int64_t *c
 
 /* As sigdorf_solve and sigdorf_solve_dense, under a watch. Where it has ended the search, watch->stopped is 1, and the status is
  * SIGDORF_BRACKET with the kind SIGDORF_BIDS, or the one that the search had come to anyway. Else watch->stopped is 0, and all is as
- * without a watch. So it is where the watch has no limit and no descriptors. `stopped` and `asked` are written whatever the status. What ends
- * before some million arcs or entries are looked at may come to its end under a time that has passed. */
+ * without a watch. So it is where the watch has no limit and no descriptors. SIGDORF_MEMORY is also where the system has no timer
+ * left. `stopped` and `asked` are written whatever the status. What ends before some million arcs or entries are looked at may come
+ * to its end under a time that has passed. */
 int32_t sigdorf_solve_watched(uint32_t persons, uint32_t objects, const sigdorf_arc *arcs, size_t arcs_len, const int64_t *start,
                               size_t start_len, uint64_t bids, sigdorf_watch *watch, uint32_t *choice, size_t choice_len, int64_t *prices,
                               size_t prices_len, uint32_t *hall_objects, size_t hall_objects_len, sigdorf_found *found);

@@ -48,7 +48,7 @@ static int has_come(int64_t time) {
 
 static int has_word(int stop) {
     struct pollfd one = {stop, POLLIN, 0};
-    return poll(&one, 1, 0) > 0;
+    return poll(&one, 1, 0) > 0 && (one.revents & POLLIN);
 }
 
 int is_late(const job *w) {

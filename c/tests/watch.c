@@ -154,11 +154,6 @@ static void ends_at_once(call *solve, uint32_t side, int64_t least) {
     if (write(ends[1], "", 1) != 1) abort();
     want_stopped("a pipe that was written to", solve, side, least, watch);
     close(ends[0]), close(ends[1]);
-    pipe_of(ends);
-    watch.stop = ends[0];
-    close(ends[1]);
-    want_stopped("a pipe that nobody writes to any more", solve, side, least, watch);
-    close(ends[0]);
 }
 
 /* A search that would take longer, where reading the entries takes a part of the time. */

@@ -1,4 +1,5 @@
 """Long searches: when they are to end, and how Ctrl-C ends them, by the watch that the library asks."""
+import contextlib
 import math
 import os
 import threading
@@ -10,6 +11,8 @@ from .progress import Progress
 NANOSECONDS, MOST_NANOSECONDS = 10**9, 2**62
 # So many seconds at most it takes a thread to begin.
 MOMENT = 1
+# A search reads so many bytes of a pipe that ends it; so many searches may be under way together.
+MOST_READ, MOST_CALLS = 8, 4_096
 
 
 def seconds_of(value):
@@ -50,7 +53,9 @@ class Pipe:
         os.set_blocking(self.writes, False)
 
     def write(self):
-        os.write(self.writes, b"\0")
+        """Ends the searches, each of which reads some bytes."""
+        with contextlib.suppress(BlockingIOError):
+            os.write(self.writes, bytes(MOST_READ * MOST_CALLS))
 
     def end(self):
         """Closes the end for writing, so that a reader has all."""

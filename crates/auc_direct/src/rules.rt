@@ -21,7 +21,8 @@
 //!    to have price 0.
 
 use crate::tuning::{
-    CALM_BIDS_PER_PERSON, FREE_DIVISOR, START_BIDS_PER_PERSON, TIES_BIDS_PER_PERSON,
+    CACHED_ENTRIES, CALM_BIDS_PER_PERSON, FREE_DIVISOR, START_BIDS_PER_PERSON, TABLE_PASSES,
+    TIES_BIDS_PER_PERSON,
 };
 use auc_market::{Attempt, LAST_EPS};
 use auc_rows::FlatRows;
@@ -90,12 +91,17 @@ pub(crate) fn attempt_from_start(rows: &FlatRows, is_start: bool) -> Attempt {
     attempt_of(rows, if is_start { START_BIDS_PER_PERSON } else { 0 })
 }
 
-/// The number of entries that the search of a full table may scan. Paths may pass over it so often, and so may a phase.
-/// Where that doesn't do, lists of candidates are mostly faster. With more objects than persons it is any number: one
-/// phase at the last eps would take far longer.
+/// The number of entries that the search of a full table may scan: of one in the cache as many as paths and a phase of
+/// its own may. With more objects than persons it is any number: one phase at the last eps would take far longer.
 pub(crate) fn scans_of_table(rows: &FlatRows) -> u64 {
     if rows.persons() < rows.objects() {
         return u64::MAX;
     }
-    u64::from(2 * PASSES).saturating_mul(rows.arc_count() as u64)
+    let entries = rows.arc_count() as u64;
+    let passes = if entries <= CACHED_ENTRIES {
+        2 * PASSES
+    } else {
+        TABLE_PASSES
+    };
+    u64::from(passes).saturating_mul(entries)
 }

@@ -27,3 +27,10 @@ pub(crate) const PACING: Pacing = Pacing {
 
 /// The number of bids a person that a run from start prices may make before it begins as a run without a start.
 pub(crate) const START_BIDS_PER_PERSON: u64 = 4;
+
+/// A full table of at most so many entries is searched as a table until its search is through: it lies in a processor's
+/// cache. A pass over a larger one takes so long that lists of candidates are mostly faster.
+pub(crate) const CACHED_ENTRIES: u64 = 1_048_576;
+
+/// The number of passes that the search of a larger one may make, with as many objects as persons.
+pub(crate) const TABLE_PASSES: u32 = 8;

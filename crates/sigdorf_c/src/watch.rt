@@ -14,8 +14,8 @@ pub struct Watching {
     pub timer: i32,
     /// Another one.
     pub stop: i32,
-    /// A descriptor to which the progress is written at each question, by one write; -1: none. One to a pipe that nobody
-    /// reads raises SIGPIPE.
+    /// A descriptor to which the progress is written at each question, by one write; -1: none. One to a pipe that
+    /// nobody reads raises SIGPIPE.
     pub progress: i32,
     /// 1 where the watch has said no in the call, else 0.
     pub stopped: u32,

@@ -99,7 +99,11 @@ fn assign_square<P: Pause, const G: bool>(
     let mut eps = i64::MAX;
     for _ in 0..64 {
         let free = reduce_rows(table, gap, market, budget);
-        let most = if eps <= 1 { budget.scans } else { scans };
+        let most = if eps <= 1 {
+            budget.scans
+        } else {
+            scans.min(budget.scans)
+        };
         let paths = augment(table, market, search, free, most, budget)?;
         if paths != Paths::Long || eps <= 1 || budget.is_spent(market.scanned) {
             return Ok(paths);

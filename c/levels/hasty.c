@@ -4,8 +4,7 @@
 #include "levels.h"
 
 #define NOBODY UINT32_MAX
-/* So many rows are looked at for each person at most, and so often all that are left, before they take what is left. */
-#define TURNS 4
+/* So many rows are looked at for each person at most, before those that are left take what is left. */
 #define LOOKS 5
 
 /* By persons an object, by objects a person, or NOBODY. Reduced costs are costs less `worth`, which is below 0 or 0
@@ -87,7 +86,7 @@ static void take_turns(hasty *h) {
     h->left = 0, h->looks = LOOKS * h->persons;
     for (size_t i = 0; i < h->persons; i++)
         if (h->object[i] == NOBODY) h->free[h->left++] = (uint32_t)i;
-    for (int turn = 0; turn < TURNS; turn++) {
+    while (h->left && h->looks) {
         size_t count = h->left, next = 0;
         for (h->left = 0; next < count && h->looks; h->looks--) next = take_best(h, next);
         while (next < count) h->free[h->left++] = h->free[next++];

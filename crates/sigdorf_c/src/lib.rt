@@ -73,7 +73,7 @@ pub extern "C" fn sigdorf_solve(
 
 /// Solves as [`sigdorf_solve`] does, under a watch, which is asked as [`auc_call::solve_call`] says. After its no,
 /// `watch.stopped` is 1, and the status is that of a bracket with the kind of a limit on bids, or that there is no
-/// assignment: clause `limit`. Clause `asked` says when `watch.asked` may be 0.
+/// assignment. Clause `limit` says it of a bracket alone. Clause `asked` says when `watch.asked` may be 0.
 #[unsafe(no_mangle)]
 pub extern "C" fn sigdorf_solve_by_watch(
     alloc: Global,

@@ -1,5 +1,4 @@
-/* From costs in whole units to costs as they are: docs/notes/exact.md has the argument, and refinement.py and near.py
- * do the same. */
+/* From costs in whole units to costs as they are: docs/notes/exact.md has the argument. */
 #include <math.h>
 #include <stdlib.h>
 #include <string.h>
@@ -18,6 +17,10 @@
  * where a row is hardly longer. */
 #define LANES 4
 #define MANY 24
+/* So many objects a round may have. A test builds the extension with fewer. */
+#ifndef MOST_OF_ROUND
+#define MOST_OF_ROUND SIGDORF_MOST_OBJECTS
+#endif
 
 /* A power of two as two factors, so that a float and its product may have any exponents. */
 typedef struct {
@@ -177,7 +180,7 @@ struct lowering {
     uint32_t object;
 };
 
-/* A round's arcs that are near enough, as a problem of their own: near.py. */
+/* A round's arcs that are near enough to be in a least assignment, as a problem of their own. */
 typedef struct {
     size_t persons, objects, near;
     uint32_t *of_person, *of_object, *number; /* how many near arcs; the object's number within the round + 1, or 0 */
@@ -249,21 +252,21 @@ static void list_near(const level *l, nearby *r, int64_t cost) {
         r->arcs[r->near + i] = (sigdorf_arc){cost, (uint32_t)i, (uint32_t)r->objects};
 }
 
-/* Solves a round: new choices, a dual of each person, and a change of each object's price. Else a status. */
-static int solve_near(job *w, level *l, nearby *r, int64_t gap) {
-    memset(r->dual, 0, l->persons * 8);
-    memset(r->change, 0, l->objects * 8);
-    if (gap == 0) return 0;
-    list_near(l, r, gap + 1);
-    size_t persons = r->persons, objects = r->objects + 1;
-    if (!persons || objects > SIGDORF_MOST_OBJECTS || r->near + persons > SIGDORF_MOST_ARCS) return STRANGE;
+/* Asks the library for a least choice of the round's objects by its first arcs: 0, or a status. */
+static int choose_near(job *w, nearby *r, size_t objects, size_t arcs) {
+    size_t persons = r->persons;
+    if (!persons) return STRANGE;
+    if (arcs > SIGDORF_MOST_ARCS) {
+        w->kind = SIGDORF_TOO_MANY_ARCS;
+        return SIGDORF_REFUSED;
+    }
     sigdorf_found found = {0};
     memset(r->prices, 0, objects * 8);
     memset(r->choice, 0, persons * 4);
     memset(r->hall, 0, persons * 4);
     const int64_t start = 0;
     sigdorf_watch watch = watch_of(w, 0);
-    int32_t status = w->calls->solve((uint32_t)persons, (uint32_t)objects, r->arcs, r->near + persons, &start, 0,
+    int32_t status = w->calls->solve((uint32_t)persons, (uint32_t)objects, r->arcs, arcs, &start, 0,
                                      bids_for(w->q.bids, persons), &watch, r->choice, persons, r->prices, objects,
                                      r->hall, persons, &found);
     take_watch(w, &watch);
@@ -274,6 +277,36 @@ static int solve_near(job *w, level *l, nearby *r, int64_t gap) {
         if (r->choice[i] >= r->near) return STRANGE;
         r->picked[i] = r->arcs[r->choice[i]].object;
     }
+    return 0;
+}
+
+/* Where the library takes no object more, everybody may have one that some least choice leaves over: it has no price at
+ * any prices that show one. Where none is left over, the round can't be solved, as if its bids hadn't sufficed. */
+static int take_left_over(job *w, nearby *r) {
+    int status = choose_near(w, r, r->objects, r->near);
+    if (status) return status;
+    uint32_t object = 0;
+    memset(r->seen, 0, r->objects);
+    for (size_t i = 0; i < r->persons; i++) r->seen[r->picked[i]] = 1;
+    while (object < r->objects && r->seen[object]) object++;
+    if (object == r->objects) {
+        w->kind = SIGDORF_BIDS;
+        return SIGDORF_BRACKET;
+    }
+    for (size_t i = 0; i < r->persons; i++) r->arcs[r->near + i].object = object;
+    return 0;
+}
+
+/* Solves a round: new choices, a dual of each person, and a change of each object's price. Else a status. */
+static int solve_near(job *w, level *l, nearby *r, int64_t gap) {
+    memset(r->dual, 0, l->persons * 8);
+    memset(r->change, 0, l->objects * 8);
+    if (gap == 0) return 0;
+    list_near(l, r, gap + 1);
+    int is_full = r->objects >= MOST_OF_ROUND, status = is_full ? take_left_over(w, r) : 0;
+    size_t persons = r->persons, objects = r->objects + !is_full;
+    if (!status) status = choose_near(w, r, objects, r->near + persons);
+    if (status) return status;
     make_whole(r->prices, objects, r->picked, persons, r->seen);
     for (size_t i = 0; i < persons; i++) {
         l->pick[r->person[i]] = r->place[r->choice[i]];

@@ -114,9 +114,10 @@ static int lift(const job *w, __int128 *prices, int unit) {
 }
 
 /* Prices of all levels together, as the answer has them, where they are within 128 bits: else Python puts them
- * together. A status where there is no memory, or STRANGE where Python has to solve the matrix. */
+ * together. A status where there is no memory, or STRANGE where the problem has to be solved for levels. */
 int combine(job *w) {
     size_t objects = w->objects, persons = w->persons;
+    if (w->q.wants_levels) return 0;
     w->are_narrow = w->is_small;
     for (size_t j = 0; w->is_small && w->are_whole && j < objects; j++) w->prices[j] *= (int64_t)persons + 1;
     if (w->is_small) return 0;

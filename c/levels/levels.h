@@ -2,8 +2,8 @@
  * in order, refine.c makes an answer of the costs as they are, ties.c the first one of several, and amounts.c adds up.
  * watching.c asks a watch between searches, and hasty.c has what may be said of a table in no time.
  *
- * The library has it for its calls of doubles (floats.c), and the Python package's extension is compiled of the same
- * files. It is plain C, and only tested. Proved are the library's calls of whole numbers, by which it solves. */
+ * The library has it for its calls of doubles (floats.c) and for Python (python.c), whose extension is compiled of the
+ * same files. It is plain C, and only tested. Proved are the library's calls of whole numbers, by which it solves. */
 #ifndef SIGDORF_LEVELS_H
 #define SIGDORF_LEVELS_H
 
@@ -44,6 +44,7 @@ typedef struct {
     double limit; /* what pairs may cost at most, and a way out costs each person; of whole numbers `whole_limit` */
     char type;    /* d, q or Q, as Python's struct module has it */
     int has_limit, wants_prices, takes_gap; /* whether an answer may have a gap */
+    int wants_levels; /* prices as levels, that Python puts together: they may be of any length then */
     int is_kept; /* a table that nobody writes while the call runs */
     /* What ends all searches together, or NULL. Its `progress` gets a `scale` before the records of a search. */
     sigdorf_watch *watch;
@@ -120,8 +121,7 @@ typedef struct {
 
 /* How many bits a number above 0 has. */
 static inline int bits_in(size_t number) { return 64 - __builtin_clzll(number); }
-/* The usual bids of a phase are few for millions of persons, each of whom may bid in it: 1,000 each at least. Python's
- * library.py has the same. */
+/* The usual bids of a phase are few for millions of persons, each of whom may bid in it: 1,000 each at least. */
 static inline uint64_t bids_for(uint64_t bids, size_t persons) {
     uint64_t each = 1000 * (uint64_t)persons;
     return bids == SIGDORF_USUAL_BIDS && each > bids ? each : bids;
@@ -211,9 +211,9 @@ void write_pairs(job *w);
 
 /* ---- Levels */
 
-/* A level, as refinement.py has it: arcs by rising persons, of each where they begin and the place of his choice among
- * them. `entry` has the numbers of their entries, or is NULL where w has a table; then objects rise. Of a table of
- * whole costs there are no slacks and tails: each arc is as good as the choice. */
+/* A level: arcs by rising persons, of each where they begin and the place of his choice among them. `entry` has the
+ * numbers of their entries, or is NULL where w has a table; then objects rise. Of a table of whole costs there are no
+ * slacks and tails: each arc is as good as the choice. */
 typedef struct {
     size_t persons, objects;
     int unit, is_settled;
@@ -243,7 +243,7 @@ int refine(job *w);
 /* Of ties.c: 0, or SIGDORF_MEMORY. Takes the first of all assignments by arcs that no person has a better one than. */
 int take_first(level *l);
 
-/* Of amounts.c: the first two 0, or a status; STRANGE where Python has to do it. */
+/* Of amounts.c: the first two 0, or a status; STRANGE where the problem has to be solved for levels. */
 int combine(job *w);
 int sum_up(job *w);
 /* Prices in whole units at which no arc is better than a person's choice, of the library's, at which none is more than

@@ -242,7 +242,8 @@ static void take_unit(job *w) {
     double inner;
     w->gate_cost = 0;
     w->unit = unit_of(w->floor, w->ceiling);
-    if (find_gate(w, &inner)) take_gate(w, inner);
+    /* Prices beside a gate are put right in 128 bits, which levels may go beyond. */
+    if (!w->q.wants_levels && find_gate(w, &inner)) take_gate(w, inner);
     w->least = units_of(w->floor, w->unit);
 }
 

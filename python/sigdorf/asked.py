@@ -1,6 +1,4 @@
 """What a caller asks for, made plain, and the one road to an answer."""
-import numpy
-
 from . import fast
 from .arguments import HIGHEST_START, INT64, MOST_BIDS, number, truth, whole_numbers
 from .claims import check_claim
@@ -69,7 +67,7 @@ class Asked:
 
     @property
     def problem(self):
-        """The arcs, where Python solves them."""
+        """The entries and their costs, without a fault."""
         if self._problem is None:
             self._problem = Problem(self.lists, self.maximize, self.decimals)
         return self._problem
@@ -117,6 +115,8 @@ class Asked:
 
     def solution(self, start, bids, words=NO_ASSIGNMENT, watch=None):
         """The Solution, under a watch or None. These words begin an Infeasible."""
+        if self.decimals is not None and start is not None and start.dtype.kind == "f":
+            start = start * self.problem.decimal_scale
         found = self._by_extension(start, bids, watch)
         if found is None:
             found = self.problem.solution(start, bids, words, watch)
@@ -129,11 +129,9 @@ class Asked:
         """The Solution, of decimals in whole units, or None."""
         # Decimals are turned already.
         maximize = self.maximize and self.decimals is None
-        if self.decimals is not None and start is not None and start.dtype.kind == "f":
-            start = start * self.problem.decimal_scale
         if watch is not None and watch.progress:
-            costs = None if self.decimals is None else self.problem.costs
-            watch.progress.by_extension(min(self.sides), maximize, costs and (lambda units: costs.shown(costs.amount(units))))
+            shown = None if self.decimals is None else self.problem.costs.shown_units
+            watch.progress.expect(min(self.sides), maximize, shown)
         return fast.solution_of(self.plain(), maximize, start, bids, watch)
 
     def check(self, solution):

@@ -1,7 +1,6 @@
-"""Costs of a caller in whole units, and what is left of each, exactly."""
+"""Costs of a caller, exactly: as they are, or decimal numbers in whole units."""
 import decimal
 import fractions
-import math
 
 import numpy
 
@@ -9,8 +8,6 @@ from .amounts import exact_sum, nearest_float, outer_bound
 
 MOST = 10**9
 MOST_DECIMALS = 9
-# Costs that aren't whole numbers to 10^9 are taken in units of which the greatest is some 2^29.
-BITS = 29
 KINDS = "biuf"
 
 
@@ -26,37 +23,30 @@ def costs_of(given, decimals, maximize, fault):
 
 
 class Costs:
-    """Finite costs, turned so that the least is wanted: (whole + tail) * 2^-unit each, with a tail of a half at most.
+    """Finite costs of a caller.
 
-    `whole` is an int64 array, within 10^9 in magnitude. `is_whole` says that there are no tails; whole numbers to 10^9 have the unit 0.
+    A search takes `numbers`, which are float64, int64 or uint64, and `maximize`: whether the most of them is wanted.
+    `is_small` says that they are all whole numbers to 10^9.
     """
 
-    def __init__(self, given, sign):
-        self._given, self._sign = given, sign
-        is_small = are_small(given)
-        self.unit, whole = (0, given.astype(numpy.int64, copy=False)) if is_small else _in_units(given)
-        self.is_whole = is_small or not _tails(given, whole, self.unit).any()
-        if self.is_whole and not is_small:
-            # The smaller the numbers, the fewer the bids: units as great as all costs allow.
-            spare = common_twos(whole)
-            self.unit, whole = self.unit - spare, whole >> spare
-        self.whole = whole if sign > 0 else -whole
+    decimals, shown_units = 0, None
 
-    def tails(self, places):
-        """What is left of the costs at these places beside their whole units: floats of 64 bits, exact, in the unit of the costs."""
-        return self._sign * _tails(self._given[places], self._sign * self.whole[places], self.unit)
+    def __init__(self, given, sign):
+        self.numbers, self.maximize, self.is_small = given, sign < 0, are_small(given)
+
+    @property
+    def whole(self):
+        """Small costs, turned so that the least is wanted: int64."""
+        numbers = self.numbers.astype(numpy.int64, copy=False)
+        return -numbers if self.maximize else numbers
 
     def at(self, places):
         """The caller's costs at these places: float64, int64 or uint64."""
-        return self._given[places]
+        return self.numbers[places]
 
     def total(self, places):
         """The sum of the caller's costs at these places: a Fraction."""
-        return exact_sum(self._given[places])
-
-    def amount(self, units):
-        """What so many units are of the caller's costs: a Fraction."""
-        return fractions.Fraction(self._sign * units) / fractions.Fraction(2) ** self.unit
+        return exact_sum(self.numbers[places])
 
     def shown(self, amount):
         """A sum as solutions show it: of whole numbers an int, else the float next to it."""
@@ -64,23 +54,20 @@ class Costs:
 
     def shown_bound(self, amount):
         """A bound as solutions show it, rounded away from all sums."""
-        return outer_bound(amount, self._sign < 0, self._has_whole_sums())
-
-    def shown_beyond(self, amount):
-        """What no sum of some is worse than, in the same way."""
-        return outer_bound(amount, self._sign > 0, self._has_whole_sums())
+        return outer_bound(amount, self.maximize, self._has_whole_sums())
 
     def _has_whole_sums(self):
-        return self._given.dtype.kind != "f" or self.is_whole and self.unit == 0
+        return self.numbers.dtype.kind != "f" or self.is_small
 
 
 class DecimalCosts:
     """Whole numbers of 10^-decimals, turned so that the least is wanted."""
 
-    unit, is_whole = 0, True
+    maximize, is_small = False, True
 
     def __init__(self, whole, decimals, sign):
-        self.whole, self.decimals, self._sign = sign * whole, decimals, sign
+        self.numbers = self.whole = sign * whole
+        self.decimals, self._sign = decimals, sign
 
     def at(self, places):
         """The caller's costs at these places: Decimals in an object array, or whole numbers."""
@@ -101,16 +88,14 @@ class DecimalCosts:
         """A sum as solutions show it: exact, whatever precision the caller's decimals have."""
         return self._shown(int(amount * 10**self.decimals))
 
-    shown_bound = shown_beyond = shown
+    shown_bound = shown
+
+    def shown_units(self, units):
+        """A sum of so many units as solutions show it."""
+        return self._shown(self._sign * units)
 
     def _shown(self, units):
         return decimal.Decimal(f"{units}e-{self.decimals}") if self.decimals else units
-
-
-def common_twos(numbers):
-    """By how many places all of these whole numbers can be shifted to the right, so that nothing is lost."""
-    bits = int(numpy.bitwise_or.reduce(numbers)) if numbers.size else 0
-    return (bits & -bits).bit_length() - 1 if bits else 0
 
 
 def may_be_rounded(numbers):
@@ -146,28 +131,6 @@ def are_small(given):
     if not given.size:
         return True
     return -MOST <= given.min() <= given.max() <= MOST and (given.dtype.kind != "f" or numpy.array_equal(numpy.rint(given), given))
-
-
-def _in_units(given):
-    """A unit of which the greatest cost is some 2^29, and the costs in whole numbers of it, to the nearest."""
-    most = max(-given.min().item(), given.max().item())
-    if given.dtype.kind == "f":
-        unit = BITS - math.frexp(most)[1]
-        return unit, numpy.rint(numpy.ldexp(given, unit)).astype(numpy.int64)
-    down, shift = most.bit_length() - BITS, given.dtype.type
-    return -down, ((given >> shift(down)) + (given >> shift(down - 1) & shift(1))).astype(numpy.int64)
-
-
-def _tails(given, whole, unit):
-    """Costs less their whole units. Nothing is rounded: what is left has no lower bit than the cost, and no higher one but where the whole part is 0."""
-    if given.dtype.kind != "f":
-        # Whatever runs over in 64 bits runs back: a tail has 34 bits at most.
-        return (given - (whole.astype(given.dtype) << given.dtype.type(-unit))).astype(numpy.int64).astype(numpy.float64)
-    parts = whole.astype(numpy.float64)
-    if unit > 0:
-        return given - numpy.ldexp(parts, -unit)
-    # By halves, since the whole part of a cost next to the greatest float is none. Without a whole part the cost is its own tail.
-    return numpy.where(whole == 0, given, 2 * (given / 2 - numpy.ldexp(parts, -unit - 1)))
 
 
 def _decimal(given, decimals, fault):

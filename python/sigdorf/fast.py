@@ -1,6 +1,7 @@
 """The extension `_fast`, where it was built: the one road of tables, matrices and lists.
 
-Without it, and wherever it answers None, the rest of the package solves the same with the same pairs: it is slower, and knows what to say of a fault.
+Without it, and wherever it answers None, the library solves the same as lists of entries, by the same code in C. That
+is slower, and Python knows what to say of a fault.
 """
 import fractions
 import os
@@ -9,10 +10,10 @@ import numpy
 
 from .amounts import exact_sum, fraction_of, nearest_float, outer_bound
 from .arguments import MOST_ENTRIES
-from .exact import Answer, priced
 from .library import USUAL_BIDS, address_of
 from .solution import Solution
 from .waiting import call_waiting
+from .whole import priced
 
 # A call of a table with fewer entries, or of a list with fewer, ends so soon that a thread of its own isn't worth its time.
 FEWEST, FEWEST_LISTED = 1 << 16, 1 << 13
@@ -121,7 +122,7 @@ def _made(problem, maximize, parts):
     if shown is None:
         shown = nearest_float(exact)
     if type(prices) is tuple:
-        prices, scale = priced(len(rows), max(sides), Answer(None, prices, 1, 0))
+        prices, scale = priced(len(rows), max(sides), prices, True)
     else:
         prices, scale = numpy.array(prices, object) if type(prices) is list else prices, (len(rows) + 1) << unit
     bound = shown

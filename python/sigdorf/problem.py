@@ -1,15 +1,15 @@
-"""Problems: lists of a caller as arcs, by which the smaller side takes the larger one."""
+"""Problems: lists of a caller, of which the smaller side takes the larger one."""
+import fractions
+
 import numpy
 
-from .arguments import HIGHEST_START, MOST_ENTRIES, MOST_INDEX, MOST_OBJECTS, MOST_PERSONS, array_of, sides_of, whole_numbers
-from .costs import KINDS, DecimalCosts, costs_of, look_at_rounding
-from .exact import Answer, priced, solve_costs
+from .arguments import MOST_ENTRIES, MOST_INDEX, MOST_OBJECTS, MOST_PERSONS, array_of, sides_of, whole_numbers
+from .costs import KINDS, costs_of, look_at_rounding
 from .faults import Infeasible
-from .library import LIST_FAULTS
+from .library import ARC, LIST_FAULTS, Answer, NoAssignment, solve_entries
 from .solution import Solution
-from .starts import in_whole_units
 from .tables import NUMBERS
-from .whole import NoAssignment, arcs_of
+from .whole import priced
 
 
 def lists_of(rows, columns, costs, shape):
@@ -60,10 +60,9 @@ class Lists:
 
 
 class Problem:
-    """The arcs of a caller's lists, numbers of persons and of objects, and how to tell what is found in the caller's terms.
+    """The entries of a caller's lists, and how to tell what is found in the caller's terms.
 
-    Where there are more rows than columns (`by_columns`), the columns are the persons. Costs of arcs are whole units of `costs`, and the least
-    is sought.
+    Where there are more rows than columns (`by_columns`), the columns are the persons.
     """
 
     def __init__(self, lists, maximize, decimals):
@@ -75,68 +74,56 @@ class Problem:
 
     @property
     def arcs(self):
-        """The arcs, as the library takes them."""
+        """The entries as the library's check takes them; costs that it can't look at are 0."""
         if self._arcs is None:
-            lists = self.lists
-            self._arcs = arcs_of(*((lists.columns, lists.rows) if self.by_columns else (lists.rows, lists.columns)), self.costs.whole)
+            rows, columns = self.lists.rows, self.lists.columns
+            self._arcs = numpy.empty(len(rows), ARC)
+            self._arcs["person"], self._arcs["object"] = (columns, rows) if self.by_columns else (rows, columns)
+            self._arcs["cost"] = self.costs.whole if self.has_whole_costs else 0
         return self._arcs
 
     @property
     def has_whole_costs(self):
-        """Whether the library's own check can look at the costs: they are whole, in units of the caller's decimals."""
-        return self.costs.is_whole and self.costs.unit == 0
+        """Whether the library's own check can look at the costs: whole numbers to 10^9, in units of the decimals."""
+        return self.costs.is_small
 
     @property
     def decimal_scale(self):
-        """How many units of the costs are one of the caller's, where costs have decimals."""
-        return 10**self.costs.decimals if isinstance(self.costs, DecimalCosts) else 1
-
-    def answered(self, start, bids, words, watch):
-        """The :class:`~.exact.Answer` of the solver. Raises Infeasible, with these words.
-
-        start: prices in units of whole costs, floats in the unit of the costs, or None; watch: a Watch, or None.
-        """
-        if self.persons == 0:
-            return Answer(numpy.zeros(0, numpy.int64), [(numpy.zeros(self.objects, numpy.int64), 0)], 1, 0)
-        try:
-            return solve_costs(self.persons, self.objects, self.arcs, self.costs, self._in_units(start), bids, watch)
-        except NoAssignment as fault:
-            persons, objects = fault.persons, fault.objects
-        rows, columns = (objects, persons) if self.by_columns else (persons, objects)
-        raise Infeasible(rows, columns, self.by_columns, words, self.lists.named(rows, columns))
-
-    def _in_units(self, start):
-        """Prices in units of the costs. What the library takes for none is an empty list."""
-        if start is None:
-            return numpy.zeros(0, numpy.int64)
-        if start.dtype.kind == "f":
-            return in_whole_units(start, (self.persons + 1) * self.decimal_scale, self.costs.unit)
-        finer, coarser = min(max(self.costs.unit, 0), 60), min(max(-self.costs.unit, 0), 62)
-        return numpy.minimum(start, HIGHEST_START >> finer) << finer >> coarser
+        """How many units of the costs are one of the caller's."""
+        return 10**self.costs.decimals
 
     def labels(self, rows, columns):
         """The names of pairs, or None."""
         named = self.lists.named(rows, columns)
         return named and list(zip(*named))
 
-    def _pairs(self, choice):
-        """Rows, columns and entries of an arc for each person, by rising rows."""
-        taken, mine = self.arcs["object"][choice].astype(numpy.int64), numpy.arange(self.persons)
-        if not self.by_columns:
-            return mine, taken, choice
-        order = numpy.argsort(taken)
-        return taken[order], order, choice[order]
-
     def solution(self, start, bids, words, watch=None):
-        """The Solution, by the library's calls for lists."""
-        answer = self.answered(start, bids, words, watch)
-        cost = self.costs.total(answer.choice)
+        """The Solution, by the library's call for lists. These words begin an Infeasible.
+
+        start: prices in units of whole costs, floats in the unit of `costs.numbers`, or None; watch: a Watch, or None.
+        """
+        answer, lists = self._answer(start, bids, words, watch), self.lists
+        places, cost, gap = answer.places, self.costs.total(answer.places), answer.gap / self.decimal_scale
         shown = self.costs.shown(cost)
-        told = self.costs.shown_bound(cost - self.sign * answer.gap) if answer.gap else shown
-        prices, scale = priced(self.persons, self.objects, answer)
-        rows, columns, entries = self._pairs(answer.choice)
-        parts = rows, columns, entries, shown, told, prices, scale * self.decimal_scale, cost, answer.gap or 0, None
-        return Solution(*parts, self.costs.at(entries), self.lists.sides, self.sign < 0)
+        told = self.costs.shown_bound(cost - self.sign * gap) if gap else shown
+        prices, scale = priced(self.persons, self.objects, answer.levels, answer.are_whole)
+        pairs = lists.rows[places], lists.columns[places], places
+        parts = shown, told, prices, scale * self.decimal_scale, cost, gap or 0, None
+        return Solution(*pairs, *parts, self.costs.at(places), lists.sides, self.sign < 0)
+
+    def _answer(self, start, bids, words, watch):
+        if self.persons == 0:
+            free = numpy.zeros(self.objects, numpy.int64)
+            return Answer(numpy.zeros(0, numpy.int64), [(free, 0)], True, fractions.Fraction(0))
+        sides, costs = self.lists.sides, self.costs
+        if watch is not None and watch.progress:
+            watch.progress.expect(self.persons, costs.maximize, costs.shown_units)
+        try:
+            entries = self.lists.rows, self.lists.columns, costs.numbers
+            return solve_entries(entries, sides, costs.maximize, start, bids, watch)
+        except NoAssignment as fault:
+            rows, columns = (fault.objects, fault.persons) if self.by_columns else (fault.persons, fault.objects)
+        raise Infeasible(rows, columns, self.by_columns, words, self.lists.named(rows, columns))
 
     def solution_of_units(self, found):
         """The Solution in the caller's decimals of one in whole units."""

@@ -20,26 +20,14 @@ class Progress:
         self._told, self._sign, self._best = told, -1 if maximize else 1, None
         self._amounts = self._scaled = None
 
-    def by_extension(self, persons, maximize, shown=None):
-        """Says whose records come: the extension's, of so many persons. `shown` makes the amounts of what the extension takes for costs the caller's."""
+    def expect(self, persons, maximize, shown=None):
+        """Says what records come: of a search of so many persons, whose amounts `shown` makes those of the caller."""
 
         def scaled(record):
             scale = Scale(SCALE.unpack(record), persons, maximize)
             return scale.amounts if shown is None else lambda lower, cost: tuple(map(shown, scale.amounts(lower, cost)))
 
         self._amounts, self._scaled = None, scaled
-
-    def by_costs(self, costs, persons):
-        """Says whose records come: the library's, of whole units of these Costs and so many persons."""
-        half = 0 if costs.is_whole else fractions.Fraction(persons, 2)
-        self._amounts = lambda lower, cost: (
-            costs.shown_bound(costs.amount(lower - 3 * half)),
-            costs.shown_beyond(costs.amount(cost + half)),
-        )
-
-    def be_silent(self):
-        """Says that records to come are of no matter."""
-        self._amounts = None
 
     def listen(self, descriptor):
         """Takes records until the other end of the pipe is closed."""
@@ -69,7 +57,7 @@ class Progress:
 
 
 class Scale:
-    """What records of a search of the extension's count."""
+    """What records of a search count."""
 
     def __init__(self, parts, persons, maximize):
         least, unit, spare, gate, self._gate_cost, flags, _ = parts

@@ -4,12 +4,12 @@ import numpy
 from .arguments import INT64, MOST_ENTRIES, MOST_INDEX, attempt, number, whole_numbers
 from .asked import NO_ASSIGNMENT, Asked
 from .claims import NO_ENTRY, listed_of, look_at_kind, look_at_names, whole_list
-from .exact import narrow
 from .faults import Infeasible, Refused
 from .library import LIST_FAULTS, OTHER_SIZE, START_FAULTS
 from .pairs import Pairs, ranks_of
 from .problem import Lists, look_at_sides
 from .starts import kept_of
+from .whole import narrow
 
 WORDS = f"{NO_ASSIGNMENT} with these pairs and capacities"
 

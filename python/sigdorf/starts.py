@@ -1,7 +1,7 @@
 """Where a search may start from: the duals of an earlier solution as prices, whatever the unit of its costs was."""
 import numpy
 
-from .arguments import HIGHEST_START, attempt
+from .arguments import attempt
 from .duals import has_row_prices
 from .solution import Solution
 from .tables import NUMBERS
@@ -47,9 +47,3 @@ def _prices_by_names(given):
     old, kept, new = given
     price_of = dict(zip(old, kept.tolist()))
     return numpy.array([price_of.get(name, 0.0) for name in new])
-
-
-def in_whole_units(prices, factor, finer):
-    """Prices as the library takes them: whole numbers of so many a unit of 2^-finer."""
-    with numpy.errstate(all="ignore"):
-        return numpy.clip(numpy.rint(numpy.ldexp(prices * factor, finer)), 0, HIGHEST_START).astype(numpy.int64)

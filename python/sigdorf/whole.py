@@ -1,45 +1,5 @@
-"""One call of the library for whole costs, with prices that are whole numbers too."""
-import typing
-
+"""Prices as whole numbers: those of the library made exact, and those of levels put together."""
 import numpy
-
-from .library import ARC, BRACKET, INFEASIBLE, solve_arcs
-
-
-class Found(typing.NamedTuple):
-    """A least assignment of whole costs, or where a limit ended the search a bracket."""
-
-    choice: numpy.ndarray
-    """The place of an arc of each person: int64."""
-    prices: numpy.ndarray
-    """A price of each object, in units of costs times persons + 1: int64, from 0. No arc is more than 1 better than the choice of its person."""
-    cost: int
-    """The sum of the choice's costs."""
-    lower: int
-    """What no assignment costs less than: the cost, but in a bracket. Its limit is that of bids, or with many persons that of prices, 2^61."""
-
-
-class NoAssignment(Exception):
-    """All arcs of these persons lead to these objects, which are fewer."""
-
-    def __init__(self, persons, objects):
-        super().__init__(persons, objects)
-        self.persons, self.objects = persons, objects
-
-
-def arcs_of(persons, objects, costs):
-    """Arcs as the library takes them."""
-    arcs = numpy.empty(len(costs), ARC)
-    arcs["person"], arcs["object"], arcs["cost"] = persons, objects, costs
-    return arcs
-
-
-def solve_whole(persons, objects, arcs, start, bids, watch=None):
-    """What the library finds. Raises NoAssignment."""
-    status, choice, prices, hall_objects, found = solve_arcs(persons, objects, arcs, start, bids, watch)
-    if status == INFEASIBLE:
-        raise NoAssignment(choice[: found.persons].astype(numpy.int64), hall_objects[: found.objects].astype(numpy.int64))
-    return Found(choice.astype(numpy.int64), prices, found.cost, found.lower if status == BRACKET else found.cost)
 
 
 def whole_prices(persons, prices, picked):
@@ -56,3 +16,34 @@ def whole_prices(persons, prices, picked):
     taken = numpy.zeros(scale, bool)
     taken[(prices[picked] % scale).astype(numpy.int64)] = True
     return (prices + -int(taken.argmin()) % scale) // scale
+
+
+def priced(persons, objects, levels, are_whole):
+    """The prices of levels, and their scale, of which persons + 1 are one of the least units.
+
+    levels: pairs of an array with a number for each object, and a unit: a price is the sum of its numbers times 2^-unit
+    each. Where they aren't `are_whole`, persons + 1 are one.
+    """
+    numbers, unit = levels[0][0], 0
+    if len(levels) > 1 or levels[0][1] != 0:
+        numbers, unit = _combined(levels)
+        if persons == objects:
+            numbers = numbers - min(numbers)
+    return narrow(numbers * (persons + 1) if are_whole else numbers), (persons + 1) << unit
+
+
+def _combined(levels):
+    """The sums of levels as Python's whole numbers of 2^-unit, and this unit, from 0."""
+    unit = max(0, max(unit for _, unit in levels))
+    total = numpy.zeros(len(levels[0][0]), object)
+    for numbers, own in levels:
+        some = numpy.flatnonzero(numbers)
+        total[some] += numbers[some].astype(object) << (unit - own)
+    return total, unit
+
+
+def narrow(numbers):
+    """Whole numbers as int64 where they are all within it, else as they are."""
+    if numbers.dtype != object or numbers.size and not -(2**63) <= min(numbers) <= max(numbers) < 2**63:
+        return numbers
+    return numbers.astype(numpy.int64)

@@ -1,6 +1,13 @@
 """Costs as they stand: random problems of floats.py, worked ones, and claims that are wrong by next to nothing."""
+import contextlib
+import ctypes
 import fractions
+import importlib.util
 import math
+import os
+import pathlib
+import subprocess
+import tempfile
 import unittest
 import unittest.mock
 
@@ -8,8 +15,11 @@ from limited import Limited, numpy, sigdorf
 
 if numpy:
     import floats
-    from sigdorf import fast, near
+    from sigdorf import fast
 
+SIZE, WORD = ctypes.c_size_t, ctypes.c_void_p
+# The words of sigdorf_solve_watched; addresses are whole numbers.
+ARCS = [ctypes.c_uint32] * 2 + [WORD, SIZE] * 2 + [ctypes.c_uint64, WORD] + [WORD, SIZE] * 3 + [WORD]
 TWO = [0, 0, 1, 1], [0, 1, 0, 1]
 
 
@@ -19,15 +29,39 @@ class Random(Limited):
             floats.greater(f"greater {number}")
 
     def test_where_there_is_no_room_for_one_more(self):
-        """The way that a problem of 4,194,304 objects takes, with a smaller limit."""
-        # The extension would answer these by itself.
-        without = unittest.mock.patch.object(fast, "_extension", None)
-        with without, unittest.mock.patch.object(near, "_left_over", wraps=near._left_over) as left_over:
-            for columns in range(3, 9):
-                with unittest.mock.patch.object(near, "MOST_OBJECTS", columns):
-                    for number in range(30):
-                        floats.floats(f"limits {number}", (number % (columns - 1) + 1, columns))
-        self.assertGreater(left_over.call_count, 5)
+        """The way that a problem of 4,194,304 objects takes, by an extension with a smaller limit."""
+        for columns in (4, 7):
+            with extension_of(columns) as calls:
+                for number in range(60):
+                    floats.floats(f"limits {number}", (number % (columns - 1) + 1, columns))
+            self.assertLessEqual(max(objects for _, objects, _ in calls), columns)
+            # A search without the object that everybody may have, and one with it.
+            again = [(persons, objects, arcs + persons) for persons, objects, arcs in calls]
+            self.assertGreater(sum(call in again[place : place + 1] for place, call in enumerate(calls[1:])), 5)
+
+
+@contextlib.contextmanager
+def extension_of(columns):
+    """Has calls go by an extension whose rounds have so many objects at most; persons, objects and arcs of searches."""
+    script, calls = pathlib.Path(__file__).resolve().parents[1] / "extension", []
+    kind = ctypes.CFUNCTYPE(ctypes.c_int32, *ARCS)
+    real = kind(fast.address_of("sigdorf_solve_watched"))
+
+    @kind
+    def counted(persons, objects, arcs, count, *words):
+        calls.append((persons, objects, count))
+        return real(persons, objects, arcs, count, *words)
+
+    with tempfile.TemporaryDirectory() as folder:
+        flags = os.environ | {"CFLAGS": f"-O0 -DMOST_OF_ROUND={columns}"}
+        if not script.exists() or subprocess.run([script, folder], env=flags, capture_output=True).returncode:
+            raise unittest.SkipTest("the extension can't be built here")
+        spec = importlib.util.spec_from_file_location("_fast", pathlib.Path(folder, "_fast.abi3.so"))
+        extension = importlib.util.module_from_spec(spec)
+        spec.loader.exec_module(extension)
+    extension.bind(fast.address_of("sigdorf_solve_dense_watched"), ctypes.cast(counted, ctypes.c_void_p).value)
+    with unittest.mock.patch.object(fast, "_extension", extension):
+        yield calls
 
 
 def small(first):

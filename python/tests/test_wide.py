@@ -1,7 +1,7 @@
 """Problems of more rows and columns than 32 bits hold the pairs of, and of so many that what takes the square of them would be seen."""
 import ctypes
 import math
-import unittest.mock
+import unittest
 
 from limited import Limited, numpy, scipy, sigdorf
 from test_fast import without
@@ -206,21 +206,12 @@ class Bids(Limited):
         mine = numpy.arange(self.ROWS)
         return sigdorf.solve(mine, mine, numpy.ones(self.ROWS, int), **({} if bids is None else {"bids": bids}))
 
-    def test_plain(self):
-        for bids, wanted in [(None, 1_000 * self.ROWS), (sigdorf.USUAL_BIDS, 1_000 * self.ROWS), (77, 77), (10**9, 10**9)]:
-            with without(), unittest.mock.patch.object(library, "_solve", side_effect=library._solve) as called:
-                self.asked(bids)
-            self.assertEqual([call[0][3] for call in called.call_args_list], [wanted])
-        with without(), unittest.mock.patch.object(library, "_solve", side_effect=library._solve) as called:
-            sigdorf.solve([0, 1], [0, 1], [1, 2])
-        self.assertEqual(called.call_args[0][3], sigdorf.USUAL_BIDS)
-
     def test_extension(self):
         if not fast.is_there():
             self.skipTest("the extension isn't used")
         seen, number, pointer, size = [], ctypes.c_uint32, ctypes.c_void_p, ctypes.c_size_t
         kind = ctypes.CFUNCTYPE(ctypes.c_int32, number, number, pointer, size, pointer, size, ctypes.c_uint64)
-        # It answers that there is no memory, so that Python does it.
+        # It answers that there is no memory, so that the library is asked without the extension.
         call = kind(lambda persons, objects, arcs, count, start, starts, bids: seen.append(bids) or library.MEMORY)
         real = fast.address_of("sigdorf_solve_dense_watched"), fast.address_of("sigdorf_solve_watched")
         fast._extension.bind(real[0], ctypes.cast(call, ctypes.c_void_p).value)

@@ -23,26 +23,27 @@ python_found *sigdorf_python_solve(uint32_t rows, uint32_t columns, const int64_
                                    const void *costs, size_t count, char type, int maximize, const int64_t *start,
                                    const double *start_amounts, uint64_t bids, sigdorf_watch *watch) {
     static const library own = {sigdorf_solve_watched, sigdorf_solve_dense_watched};
-    python_found *found = calloc(1, sizeof *found);
+    python_found *found = malloc(sizeof *found);
     if (!found) return NULL;
+    question q = {.costs = costs,
+                  .row = row,
+                  .column = column,
+                  .start = start,
+                  .start_amounts = start_amounts,
+                  .count = count,
+                  .rows = rows,
+                  .columns = columns,
+                  .stride = columns,
+                  .starts = !start && !start_amounts ? 0 : rows < columns ? columns : rows,
+                  .most_entries = SIGDORF_MOST_ARCS,
+                  .bids = bids,
+                  .type = type,
+                  .wants_prices = 1,
+                  .wants_levels = 1,
+                  .takes_gap = 1,
+                  .watch = watch};
+    *found = (python_found){.w = {.q = q}};
     job *w = &found->w;
-    w->q = (question){.costs = costs,
-                      .row = row,
-                      .column = column,
-                      .start = start,
-                      .start_amounts = start_amounts,
-                      .count = count,
-                      .rows = rows,
-                      .columns = columns,
-                      .stride = columns,
-                      .starts = !start && !start_amounts ? 0 : rows < columns ? columns : rows,
-                      .most_entries = SIGDORF_MOST_ARCS,
-                      .bids = bids,
-                      .type = type,
-                      .wants_prices = 1,
-                      .wants_levels = 1,
-                      .takes_gap = 1,
-                      .watch = watch};
     workshop shop = {0};
     unsigned kept = begin_floats();
     found->status = begin_job(w, &shop, &own, maximize) ? STRANGE : run(w);

@@ -13,6 +13,7 @@ const char *sigdorf_status_text(int32_t status) {
     case SIGDORF_MEMORY: return "memory was refused";
     case SIGDORF_START: return "no run can start from the prices";
     case SIGDORF_SOME: return "the status of some table is another than optimal";
+    case SIGDORF_UNREACHED: return "the watch had ended the call before this table";
     default: return "no status of this library";
     }
 }

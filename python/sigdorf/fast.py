@@ -17,7 +17,7 @@ from .waiting import call_waiting
 # A call of a table with fewer entries, or of a list with fewer, ends so soon that a thread of its own isn't worth its time.
 FEWEST, FEWEST_LISTED = 1 << 16, 1 << 13
 # That of the extension of these sources; one that was built of others isn't used.
-INTERFACE = 8
+INTERFACE = 9
 ARRAY = numpy.ndarray
 FLOAT, WHOLE, NATURAL = map(numpy.dtype, ("f8", "i8", "u8"))
 

@@ -26,7 +26,7 @@ except ModuleNotFoundError:
 del numpy
 
 from .assignment import check, solve
-from .best import Ranked, k_best
+from .best import Ranked, Ranking, k_best
 from .cardinality import max_cardinality_match
 from .certified import certify
 from .edges import Edges
@@ -47,6 +47,7 @@ __all__ = [
     "Match",
     "Mistyped",
     "Ranked",
+    "Ranking",
     "Refused",
     "Solution",
     "Solver",

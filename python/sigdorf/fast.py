@@ -87,12 +87,12 @@ def found(problem, maximize, wants_prices, limit=None, start=None, bids=USUAL_BI
     return call_waiting(is_long, watch, _extension.found, problem, maximize, wants_prices, limit, start, bids)
 
 
-def found_under_limits(tables, limits, maximize, bids):
+def found_under_limits(tables, limits, maximize, bids, watch=None):
     """What :func:`found` answers of each of some plain tables and its limit, by one call; arrays are slices of longer ones."""
     if _extension is None:
         return [None] * len(tables)
     is_long = any(table.size >= FEWEST for table in tables)
-    return call_waiting(is_long, None, _extension.matched_all, tables, limits, maximize, bids)
+    return call_waiting(is_long, watch, _extension.matched_all, tables, limits, maximize, bids)
 
 
 def solution_of(problem, maximize, start=None, bids=USUAL_BIDS, watch=None):

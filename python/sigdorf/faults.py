@@ -86,4 +86,4 @@ class Unsettled(RuntimeError):
 
     def __str__(self):
         cost, bound = self.solution.cost, self.solution.bound
-        return f"a limit ended the search: an assignment of cost {cost} was found, and none is better than {bound}; more bids= may settle it"
+        return f"a limit ended the search: an assignment of cost {cost} was found, and none is better than {bound}; more bids= or seconds= may settle it"

@@ -50,7 +50,7 @@ def certify(
     if cost < least.exact_cost if asked.maximize else cost > least.exact_cost:
         raise Refused(_told(asked, cost, least))
     if least.gap:
-        raise Unsettled(least)
+        raise Unsettled(least, "seconds" if watch is not None and watch.is_over() else "bids")
     labels, costs = asked.labels(*pairs), asked.problem.costs.at(entries)
     claim = least._replace(rows=pairs[0], columns=pairs[1], entries=entries, labels=labels, costs=costs)
     asked.check(claim)

@@ -125,12 +125,12 @@ def matched(asked, limit, bids, watch=None):
         return _by_lists(asked, limit, bids, watch)
     rows, columns, places, free_rows, free_columns, *gap = found
     costs = asked.costs[places] if asked.table is None else costs_at(asked.table, rows, columns, places)
-    return Match(rows, columns, free_rows, free_columns, costs, asked.labels(rows, columns), gap_of(*gap))
+    return Match(rows, columns, free_rows, free_columns, costs, asked.labels(rows, columns), gap_of(*gap) if gap else 0)
 
 
-def gap_of(number=0, unit=0):
-    """A gap of the extension's: 0, or so many 2^-unit."""
-    return number and fractions.Fraction(number) / fractions.Fraction(2) ** unit
+def gap_of(number, unit):
+    """A gap of the extension's: so many 2^-unit."""
+    return fractions.Fraction(number) / fractions.Fraction(2) ** unit
 
 
 def costs_at(table, rows, columns, places):

@@ -112,7 +112,7 @@ def _matches(tables, limits, part, words, watch):
             continue
         rows, columns, places, free_rows, free_columns, *gap = found
         costs = costs_at(tables[number], rows, columns, places)
-        matches.append(Match(rows, columns, free_rows, free_columns, costs, None, gap_of(*gap)))
+        matches.append(Match(rows, columns, free_rows, free_columns, costs, None, gap_of(*gap) if gap else 0))
     return matches
 
 

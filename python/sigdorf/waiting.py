@@ -84,7 +84,7 @@ def watch_of(seconds, progress, maximize, began):
 
 def time_limit(seconds):
     """The Watch of a limit of time alone, from now on, or None. A ValueError says that it is at fault."""
-    return watch_of(seconds, None, False, time.monotonic_ns())
+    return None if seconds is None else Watch(seconds_of(seconds), None, time.monotonic_ns())
 
 
 def call_waiting(is_long, watch, call, *arguments):

@@ -60,7 +60,7 @@ class Matches(Limited):
     def test_ends_in_time(self):
         """The sum of an answer is above the least one by its gap at most."""
         # Lists of all entries take longer, and without the extension all are such.
-        tables, ended = [*forms(products(1_200 if fast.is_there() else 400)[0])][:2], 0
+        tables, unsettled = [*forms(products(1_200 if fast.is_there() else 400)[0])][:2], 0
         for given in tables + [*forms(products(400)[0])][2:]:
             is_list = len(given) == 3
             costs, own = (given[2], {"rows": given[0], "columns": given[1]}) if is_list else (given[0], {})
@@ -77,10 +77,10 @@ class Matches(Limited):
                         dense = costs.reshape(400, 400) if is_list else costs.toarray() if hasattr(costs, "toarray") else costs
                         self.assert_match(found, dense, limit)
                         self.assertEqual(found.is_optimal, found.gap == 0)
-                        ended += not found.is_optimal
+                        unsettled += not found.is_optimal
                         self.assertTrue(0 <= worth(found, limit) - worth(best, limit) <= found.gap)
 
-        self.assertGreater(ended, 0)
+        self.assertGreater(unsettled, 0)
 
     def test_settled(self):
         """With time enough, or where a search is short, it is the answer without a limit."""

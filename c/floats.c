@@ -190,8 +190,8 @@ static int have_together(const sigdorf_table_f64 *tables, size_t count, size_t p
 }
 
 /* Solves one table of many, with memory for an answer that another one may have had: its status. */
-static int32_t match_next(workshop *shop, room *answer, const sigdorf_table_f64 *table, uint64_t bids, sigdorf_watch *watch,
-                          uint32_t *choice, sigdorf_found_f64 *found) {
+static int32_t match_next(workshop *shop, room *answer, const sigdorf_table_f64 *table, uint64_t bids,
+                          sigdorf_watch *watch, uint32_t *choice, sigdorf_found_f64 *found) {
     job w = {.q.watch = watch};
     int32_t status = is_over(&w) ? SIGDORF_UNREACHED : take_match(&w, table, bids, watch, found);
     if (status) return status;
@@ -229,10 +229,11 @@ int32_t sigdorf_match_many(const sigdorf_table_f64 *tables, size_t tables_len, u
     return match_many(tables, tables_len, bids, NULL, choice, choice_len, statuses, statuses_len, found, found_len);
 }
 
-int32_t sigdorf_match_many_watched(const sigdorf_table_f64 *tables, size_t tables_len, uint64_t bids, sigdorf_watch *watch,
-                                   uint32_t *choice, size_t choice_len, int32_t *statuses, size_t statuses_len,
-                                   sigdorf_found_f64 *found, size_t found_len) {
+int32_t sigdorf_match_many_watched(const sigdorf_table_f64 *tables, size_t tables_len, uint64_t bids,
+                                   sigdorf_watch *watch, uint32_t *choice, size_t choice_len, int32_t *statuses,
+                                   size_t statuses_len, sigdorf_found_f64 *found, size_t found_len) {
     sigdorf_watch own = silent(watch);
-    return end(watch, &own,
-               match_many(tables, tables_len, bids, &own, choice, choice_len, statuses, statuses_len, found, found_len));
+    int32_t status = match_many(tables, tables_len, bids, &own, choice, choice_len, statuses, statuses_len, found,
+                                found_len);
+    return end(watch, &own, status);
 }

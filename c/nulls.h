@@ -5,7 +5,8 @@
 /* Nobody reads or writes it. */
 static _Alignas(16) char nothing[16];
 
-/* Two arguments: what a caller gives, or in place of null and none a pointer that isn't null, and is aligned; and its length. */
+/* Two arguments: what a caller gives, or in place of null and none a pointer that isn't null and is aligned; and its
+ * length. */
 #define GIVEN(values, length) ((values) || (length) ? (values) : (void *)nothing), (length)
 
 #endif

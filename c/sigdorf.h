@@ -294,9 +294,9 @@ int32_t sigdorf_match_watched(uint32_t persons, uint32_t objects, const double *
                               double gate, uint64_t bids, sigdorf_watch *watch, uint32_t *choice, size_t choice_len,
                               sigdorf_found_f64 *found);
 
-int32_t sigdorf_match_many_watched(const sigdorf_table_f64 *tables, size_t tables_len, uint64_t bids, sigdorf_watch *watch,
-                                   uint32_t *choice, size_t choice_len, int32_t *statuses, size_t statuses_len,
-                                   sigdorf_found_f64 *found, size_t found_len);
+int32_t sigdorf_match_many_watched(const sigdorf_table_f64 *tables, size_t tables_len, uint64_t bids,
+                                   sigdorf_watch *watch, uint32_t *choice, size_t choice_len, int32_t *statuses,
+                                   size_t statuses_len, sigdorf_found_f64 *found, size_t found_len);
 
 /* Checks an answer, whoever found it. SIGDORF_OPTIMAL: choice, cost and prices are as under SIGDORF_OPTIMAL above. */
 int32_t sigdorf_check(uint32_t persons, uint32_t objects, const sigdorf_arc *arcs, size_t arcs_len, const uint32_t *choice,

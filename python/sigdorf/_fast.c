@@ -253,7 +253,8 @@ static PyObject *pairs_of(const job *w, int parts) {
 /* These parts, and where a limit has ended the search its gap: a number and its unit. */
 static PyObject *with_gap(const job *w, PyObject *parts) {
     if (!parts || !w->gap) return parts;
-    PyObject *gap = Py_BuildValue("(Li)", (long long)w->gap, w->gap_unit), *all = gap ? PySequence_Concat(parts, gap) : NULL;
+    PyObject *gap = Py_BuildValue("(Li)", (long long)w->gap, w->gap_unit);
+    PyObject *all = gap ? PySequence_Concat(parts, gap) : NULL;
     Py_DECREF(parts);
     Py_XDECREF(gap);
     return all;
@@ -522,7 +523,7 @@ static PyMethodDef methods[] = {
     METHOD(bind, "bind(dense, arcs): the addresses of the library's sigdorf_solve_dense_watched and sigdorf_solve_watched."),
     METHOD(
         found,
-        "found(problem, maximize, wants_prices, limit, start, bids, watch=None): the pairs of a least assignment, of a watch with a time also a gap, or the parts of a solution, or None."),
+        "found(problem, maximize, wants_prices, limit, start, bids, watch=None): the pairs of a least assignment, or the parts of a solution, or None; a watch's time may leave pairs with a gap."),
     METHOD(found_all,
            "found_all(tables, maximize, watch=None): the parts of the solution of each, or None, with the lock given up once."),
     METHOD(matched_all,

@@ -68,8 +68,8 @@ def k_best(
     table: as :func:`solve` takes it: a matrix, dense or sparse, or a table with names.
     k: how many, from 1.
     maximize, missing, bids: those of :func:`solve`.
-    seconds: a limit of time, from 0. After it come those that were found by then, none perhaps, each with its place; the
-        list's `is_complete` is False then. It is so too where bids didn't suffice.
+    seconds: a limit of time, from 0. After it come those found by then, each in its place, or none: no fault, but a
+        list whose `is_complete` is False. With seconds, bids that don't suffice are answered in the same way.
 
     Sums are exact, of floats too. Of several that cost the same the first rows have the lowest columns, as everywhere
     here. The method is K. G. Murty's (Operations Research 16, 1968): what is left is parted by the pairs of each
@@ -109,7 +109,8 @@ class Part:
             raise OutOfTime
         self._asked, self._is_left, self._kept = asked, is_left, kept
         self._some = numpy.flatnonzero(is_left)
-        self._solution = Asked.of_lists(asked.lists.where(self._some), asked.maximize).solution(None, bids, NO_ASSIGNMENT, watch)
+        some = Asked.of_lists(asked.lists.where(self._some), asked.maximize)
+        self._solution = some.solution(None, bids, NO_ASSIGNMENT, watch)
         if self._solution.gap:
             raise Unsettled(self._solution)
         # By persons, so that ties are in order.

@@ -50,7 +50,10 @@ def max_cardinality_match(
 
 
 def _are_most(found, limit, maximize):
-    """Whether a gap shows that there are no more pairs: any so many cost less than half the limit together, and one more saves the whole limit."""
+    """Whether a gap shows that there are no more pairs.
+
+    Any pairs cost less than half the limit together, and one more saves the whole limit.
+    """
     return found.gap <= fractions.Fraction(limit) / 2 + (-1 if maximize else 1) * exact_sum(found.costs)
 
 

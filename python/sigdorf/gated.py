@@ -43,12 +43,14 @@ class Match(typing.NamedTuple):
     labels: list[tuple] | None = None
     """The names of each pair's row and column, where the table has names."""
     gap: fractions.Fraction | int | float = 0
-    """What the sum, of costs and of the limits of what stays free, is above the least at most (below the greatest), exactly: 0, unless `seconds` ended
-    the search. Of :func:`max_cardinality_match` the same of the costs, and infinite where there may be more pairs."""
+    """What the sum, of costs and of the limits of what stays free, is above the least at most (below the greatest),
+    exactly: 0, unless `seconds` ended the search. Of :func:`max_cardinality_match` the same of the costs alone, and
+    infinite where there may be more pairs."""
 
     def __repr__(self):
         gap = "" if self.is_optimal else f"gap={nearest_float(self.gap) if self.gap < math.inf else self.gap}, "
-        return f"Match({gap}pairs={shown_pairs(self)}, free_rows={shown_list(self.free_rows)}, free_columns={shown_list(self.free_columns)})"
+        free = f"free_rows={shown_list(self.free_rows)}, free_columns={shown_list(self.free_columns)}"
+        return f"Match({gap}pairs={shown_pairs(self)}, {free})"
 
     @property
     def is_optimal(self) -> bool:
@@ -84,12 +86,12 @@ def match(
     rows, columns, shape: those of :func:`solve`. Rows and columns number 4,194,304 at most together.
     maximize: whether the most is wanted: then no pair of less than the limit is made.
     missing, bids: those of :func:`solve`.
-    seconds: a limit of time, from 0. After it come the pairs found by then, none of which is beyond the limit: no fault,
-        but a :class:`Match` whose `is_optimal` is False; its `gap` says how far off the sum may be. It is so then where
-        bids didn't suffice.
+    seconds: a limit of time, from 0. After it come the pairs found by then, none of them beyond the limit: no fault,
+        but a :class:`Match` whose `is_optimal` is False, and whose `gap` says how far off the sum may be. With seconds,
+        bids that don't suffice are answered in the same way.
 
-    Raises ValueError where an argument is at fault, and Unsettled where bids didn't suffice. KeyboardInterrupt ends a
-    long search at once.
+    Raises ValueError where an argument is at fault, and Unsettled where bids didn't suffice and no `seconds` were
+    given. KeyboardInterrupt ends a long search at once.
 
     >>> found = sigdorf.match([[1.0, 9.0, 9.0], [9.0, 0.5, 9.0], [9.0, 0.75, 9.0]], 2.0)
     >>> found.rows.tolist(), found.columns.tolist(), found.free_rows.tolist()
@@ -103,7 +105,18 @@ def match(
     return match_by(time_limit(seconds), costs, limit, column_limit, rows, columns, shape, maximize, missing, bids)
 
 
-def match_by(watch, costs, limit, column_limit=None, rows=None, columns=None, shape=None, maximize=False, missing=None, bids=USUAL_BIDS):
+def match_by(
+    watch,
+    costs,
+    limit,
+    column_limit=None,
+    rows=None,
+    columns=None,
+    shape=None,
+    maximize=False,
+    missing=None,
+    bids=USUAL_BIDS,
+):
     """The Match of :func:`match`, under a Watch or None."""
     asked, bids = asked_to_match(costs, rows, columns, shape, maximize, missing), bids_of(bids)
     if column_limit is not None or is_listed(limit):
@@ -200,10 +213,11 @@ def _by_own_limits(asked, limit, column_limit, bids, watch):
 
 
 def _without_dear(lists, costs, limits, maximize, entries, gap):
-    """The pairs of a search that was ended without those beyond their limits, which it may have, and what that leaves of the gap."""
-    sign, own = -1 if maximize else 1, (side[of[entries]].tolist() for side, of in zip(limits, (lists.rows, lists.columns)))
+    """The pairs of a search that was ended, without those beyond their limits, and what that leaves of the gap."""
+    own = (side[of[entries]].tolist() for side, of in zip(limits, (lists.rows, lists.columns)))
+    sign, exact = -1 if maximize else 1, fractions.Fraction
     # What each costs more than it costs to leave its row and column free.
-    more = [sign * (fractions.Fraction(cost) - sum(map(fractions.Fraction, free))) for cost, *free in zip(costs[entries].tolist(), *own)]
+    more = [sign * (exact(cost) - sum(map(exact, free))) for cost, *free in zip(costs[entries].tolist(), *own)]
     return entries[numpy.array([part <= 0 for part in more], bool)], gap - sum(part for part in more if part > 0)
 
 

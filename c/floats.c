@@ -127,36 +127,57 @@ int32_t sigdorf_solve_dense_f64(uint32_t persons, uint32_t objects, const double
                        hall_objects_len, found);
 }
 
+/* The watch of a call, which tells nobody of progress; and what is written to the caller's at the end. */
+static sigdorf_watch silent(const sigdorf_watch *watch) { return (sigdorf_watch){watch->until, watch->stop, -1, 0, 0}; }
+
+static int32_t end(sigdorf_watch *watch, const sigdorf_watch *own, int32_t status) {
+    watch->stopped = own->stopped, watch->asked = own->asked;
+    return status;
+}
+
 int32_t sigdorf_solve_dense_f64_watched(uint32_t persons, uint32_t objects, const double *costs, size_t costs_len,
                                         size_t stride, uint64_t bids, sigdorf_watch *watch, uint32_t *choice,
                                         size_t choice_len, uint32_t *hall_objects, size_t hall_objects_len,
                                         sigdorf_found_f64 *found) {
-    sigdorf_watch own = {watch->until, watch->stop, -1, 0, 0};
+    sigdorf_watch own = silent(watch);
     int32_t status = solve_dense(persons, objects, costs, costs_len, stride, bids, &own, choice, choice_len,
                                  hall_objects, hall_objects_len, found);
-    watch->stopped = own.stopped, watch->asked = own.asked;
-    return status;
+    return end(watch, &own, status);
 }
 
-/* Takes the problem of a match: SIGDORF_OPTIMAL, or the status of what can't be asked. */
-static int32_t take_match(job *w, const sigdorf_table_f64 *table, uint64_t bids, sigdorf_found_f64 *found) {
+/* Takes the problem of a match, under a watch or NULL: SIGDORF_OPTIMAL, or the status of what can't be asked. */
+static int32_t take_match(job *w, const sigdorf_table_f64 *table, uint64_t bids, sigdorf_watch *watch,
+                          sigdorf_found_f64 *found) {
     uint32_t persons = table->persons, objects = table->objects;
     if (!lies_within(persons, objects, table->costs_len, table->stride)) return SIGDORF_SIZES;
     if (persons > MOST_SIDE) return refused(found, SIGDORF_PERSONS, 0);
     if (objects > MOST_SIDE - persons) return refused(found, SIGDORF_OBJECTS, 0);
     if (!(table->gate - table->gate == 0)) return refused(found, SIGDORF_GATE, 0);
     *w = job_of(table->costs, persons, objects, table->stride, bids);
-    w->q.limit = table->gate, w->q.has_limit = 1;
+    w->q.limit = table->gate, w->q.has_limit = 1, w->q.watch = watch;
     return SIGDORF_OPTIMAL;
+}
+
+static int32_t match(const sigdorf_table_f64 *table, uint64_t bids, sigdorf_watch *watch, uint32_t *choice,
+                     size_t choice_len, sigdorf_found_f64 *found) {
+    job w;
+    if (choice_len != table->persons) return SIGDORF_SIZES;
+    int32_t status = take_match(&w, table, bids, watch, found);
+    return status ? status : solve(&w, choice, NULL, found);
 }
 
 int32_t sigdorf_match(uint32_t persons, uint32_t objects, const double *costs, size_t costs_len, size_t stride,
                       double gate, uint64_t bids, uint32_t *choice, size_t choice_len, sigdorf_found_f64 *found) {
     const sigdorf_table_f64 table = {persons, objects, costs, costs_len, stride, gate};
-    job w;
-    if (choice_len != persons) return SIGDORF_SIZES;
-    int32_t status = take_match(&w, &table, bids, found);
-    return status ? status : solve(&w, choice, NULL, found);
+    return match(&table, bids, NULL, choice, choice_len, found);
+}
+
+int32_t sigdorf_match_watched(uint32_t persons, uint32_t objects, const double *costs, size_t costs_len, size_t stride,
+                              double gate, uint64_t bids, sigdorf_watch *watch, uint32_t *choice, size_t choice_len,
+                              sigdorf_found_f64 *found) {
+    const sigdorf_table_f64 table = {persons, objects, costs, costs_len, stride, gate};
+    sigdorf_watch own = silent(watch);
+    return end(watch, &own, match(&table, bids, &own, choice, choice_len, found));
 }
 
 /* Whether tables have so many persons together. */
@@ -168,31 +189,51 @@ static int have_together(const sigdorf_table_f64 *tables, size_t count, size_t p
     return !persons;
 }
 
-int32_t sigdorf_match_many(const sigdorf_table_f64 *tables, size_t tables_len, uint64_t bids, uint32_t *choice,
-                           size_t choice_len, int32_t *statuses, size_t statuses_len, sigdorf_found_f64 *found,
-                           size_t found_len) {
+/* Solves one table of many, with memory for an answer that another one may have had: its status. */
+static int32_t match_next(workshop *shop, room *answer, const sigdorf_table_f64 *table, uint64_t bids,
+                          sigdorf_watch *watch, uint32_t *choice, sigdorf_found_f64 *found) {
+    job w = {.q.watch = watch};
+    int32_t status = is_over(&w) ? SIGDORF_UNREACHED : take_match(&w, table, bids, watch, found);
+    if (status) return status;
+    w.answer = *answer;
+    status = solve_in(shop, &w, choice, NULL, found);
+    /* The next one's. */
+    *answer = w.answer, w.answer = (room){0};
+    end_job(&w);
+    return status;
+}
+
+/* The calls of many tables, under a watch or NULL. */
+static int32_t match_many(const sigdorf_table_f64 *tables, size_t tables_len, uint64_t bids, sigdorf_watch *watch,
+                          uint32_t *choice, size_t choice_len, int32_t *statuses, size_t statuses_len,
+                          sigdorf_found_f64 *found, size_t found_len) {
     if (statuses_len != tables_len || found_len != tables_len || !have_together(tables, tables_len, choice_len))
         return SIGDORF_SIZES;
     int32_t all = SIGDORF_OPTIMAL;
     workshop shop = {0};
     room answer = {0};
     unsigned kept = begin_floats();
-    for (size_t k = 0; k < tables_len; k++) {
-        job w;
-        int32_t status = take_match(&w, &tables[k], bids, &found[k]);
-        if (!status) {
-            w.answer = answer;
-            status = solve_in(&shop, &w, choice, NULL, &found[k]);
-            /* The next one's. */
-            answer = w.answer, w.answer = (room){0};
-            end_job(&w);
-        }
-        if (status) all = SIGDORF_SOME;
-        statuses[k] = status;
-        choice += tables[k].persons;
+    for (size_t k = 0, at = 0; k < tables_len; at += tables[k++].persons) {
+        statuses[k] = match_next(&shop, &answer, &tables[k], bids, watch, at ? choice + at : choice, &found[k]);
+        if (statuses[k]) all = SIGDORF_SOME;
     }
     free(answer.block);
     close_shop(&shop);
     end_floats(kept);
     return all;
+}
+
+int32_t sigdorf_match_many(const sigdorf_table_f64 *tables, size_t tables_len, uint64_t bids, uint32_t *choice,
+                           size_t choice_len, int32_t *statuses, size_t statuses_len, sigdorf_found_f64 *found,
+                           size_t found_len) {
+    return match_many(tables, tables_len, bids, NULL, choice, choice_len, statuses, statuses_len, found, found_len);
+}
+
+int32_t sigdorf_match_many_watched(const sigdorf_table_f64 *tables, size_t tables_len, uint64_t bids,
+                                   sigdorf_watch *watch, uint32_t *choice, size_t choice_len, int32_t *statuses,
+                                   size_t statuses_len, sigdorf_found_f64 *found, size_t found_len) {
+    sigdorf_watch own = silent(watch);
+    int32_t status = match_many(tables, tables_len, bids, &own, choice, choice_len, statuses, statuses_len, found,
+                                found_len);
+    return end(watch, &own, status);
 }

@@ -3,13 +3,14 @@
  * What is proved holds of a call that keeps the duties below, and of no other. Nothing on this side of the border is seen by the
  * prover: this file is written by hand, and `c/test` tries its numbers against the library.
  *
- * PROVED: the seven calls of whole numbers, but for what the two watched ones make of their watch. TESTED ONLY: the four
- * calls of doubles, sigdorf_solve_dense_f64, sigdorf_solve_dense_f64_watched, sigdorf_match and sigdorf_match_many. They
- * are plain C around the proved calls: each search in whole numbers is proved, and how doubles become whole numbers is not.
+ * PROVED: the seven calls of whole numbers, but for what the two watched ones make of their watch, and that in each a null pointer
+ * of length 0 becomes one that is not null. TESTED ONLY: the six calls of doubles, which are sigdorf_solve_dense_f64, sigdorf_match,
+ * sigdorf_match_many, and these with _watched. They are plain C around the proved calls: each search in whole numbers is proved, and
+ * how doubles become whole numbers is not.
  *
  * DUTIES of the caller, for each call:
- *   1  Each pointer is not null, is aligned as its type, and leads to as many whole values as the length after it says. A length of 0
- *      still takes a pointer that is not null and is aligned. No length is above 2^63 / (size of a value).
+ *   1  Each pointer is aligned as its type, and leads to as many whole values as the length after it says. It may be null where that
+ *      is 0, and nowhere else. No length is above 2^63 / (size of a value).
  *   2  What a const pointer leads to is initialised, and no thread writes it while the call runs.
  *   3  What a pointer without const leads to is initialised, and is read and written by nobody else while the call runs: it shares no
  *      byte with any other argument.
@@ -51,7 +52,7 @@ typedef struct sigdorf_arc {
     uint32_t object;
 } sigdorf_arc;
 
-/* What a call returns beside its status. A field that the status does not name keeps its value. 32 bytes. */
+/* What a call returns beside its status. A field that the status does not name keeps its value. 64 bytes. */
 typedef struct sigdorf_found {
     int64_t cost;     /* SIGDORF_OPTIMAL, SIGDORF_BRACKET */
     int64_t lower;    /* SIGDORF_BRACKET */
@@ -60,9 +61,10 @@ typedef struct sigdorf_found {
     uint32_t kind;    /* SIGDORF_REFUSED: a sigdorf_list_fault; SIGDORF_START: a sigdorf_start_fault; SIGDORF_INVALID: a
                          sigdorf_claim_fault; SIGDORF_BRACKET: a sigdorf_limit */
     uint32_t place;   /* of these but SIGDORF_BRACKET: the arc, entry, person or object that is at fault, or 0 */
+    uint64_t reserved[4]; /* for later versions: none so far reads or writes it */
 } sigdorf_found;
 
-/* The same of the calls of doubles. 32 bytes. */
+/* The same of the calls of doubles. 64 bytes. */
 typedef struct sigdorf_found_f64 {
     double cost;      /* SIGDORF_OPTIMAL, SIGDORF_BRACKET: the double next to the sum; infinite where it is beyond all */
     double gap;       /* SIGDORF_BRACKET: the sum is above the least one by no more than this */
@@ -70,6 +72,7 @@ typedef struct sigdorf_found_f64 {
     uint32_t objects; /* SIGDORF_INFEASIBLE */
     uint32_t kind;    /* SIGDORF_REFUSED: a sigdorf_list_fault; SIGDORF_BRACKET: a sigdorf_limit */
     uint32_t place;   /* SIGDORF_REFUSED: the entry that is at fault, or 0 */
+    uint64_t reserved[4]; /* for later versions: none so far reads or writes it */
 } sigdorf_found_f64;
 
 /* What ends a search before its own end, and to whom it says how far it is. It is asked before each phase, and each time that some
@@ -94,7 +97,7 @@ typedef struct sigdorf_progress {
     uint32_t known;    /* 1 where `cost` and `lower` are there */
 } sigdorf_progress;
 
-/* The object of a person who stays free, in an answer of sigdorf_match or sigdorf_match_many. */
+/* The object of a person who stays free, in an answer of a match. */
 #define SIGDORF_FREE UINT32_MAX
 
 /* One of the tables of sigdorf_match_many: sigdorf_match's arguments of these names. 40 bytes. */
@@ -116,7 +119,8 @@ enum sigdorf_status {
     SIGDORF_REFUSED = 5,    /* the arcs are no problem */
     SIGDORF_MEMORY = 6,     /* malloc or realloc gave NULL; nothing was written */
     SIGDORF_START = 7,      /* no run can start from the prices */
-    SIGDORF_SOME = 8        /* of sigdorf_match_many: some table's status is another than SIGDORF_OPTIMAL */
+    SIGDORF_SOME = 8,       /* of sigdorf_match_many: some table's status is another than SIGDORF_OPTIMAL */
+    SIGDORF_UNREACHED = 9   /* of a table of sigdorf_match_many_watched: the watch had ended the call before it; nothing was written */
 };
 
 /* The first fault of a list, looked for in this order; the last four arc by arc. Of a table the first three and the last. */
@@ -278,6 +282,22 @@ int32_t sigdorf_match_many(const sigdorf_table_f64 *tables, size_t tables_len, u
                            size_t choice_len, int32_t *statuses, size_t statuses_len, sigdorf_found_f64 *found,
                            size_t found_len);
 
+/* The two matches under a watch, as sigdorf_solve_dense_f64_watched has it. Tested only.
+ *
+ * SIGDORF_BRACKET, where the watch has ended the search: the pairs found by then, none of them above the gate; found->gap says
+ *   how far above the least sum theirs may be, and may be 0.
+ *
+ * Of many tables the watch is one for all. The table at which it ends them has its answer or SIGDORF_BRACKET, and no later one is
+ * begun: these have the status SIGDORF_UNREACHED, and their places in `choice` and `found` keep their values. So it is with all
+ * tables where the watch had come to its end before. */
+int32_t sigdorf_match_watched(uint32_t persons, uint32_t objects, const double *costs, size_t costs_len, size_t stride,
+                              double gate, uint64_t bids, sigdorf_watch *watch, uint32_t *choice, size_t choice_len,
+                              sigdorf_found_f64 *found);
+
+int32_t sigdorf_match_many_watched(const sigdorf_table_f64 *tables, size_t tables_len, uint64_t bids,
+                                   sigdorf_watch *watch, uint32_t *choice, size_t choice_len, int32_t *statuses,
+                                   size_t statuses_len, sigdorf_found_f64 *found, size_t found_len);
+
 /* Checks an answer, whoever found it. SIGDORF_OPTIMAL: choice, cost and prices are as under SIGDORF_OPTIMAL above. */
 int32_t sigdorf_check(uint32_t persons, uint32_t objects, const sigdorf_arc *arcs, size_t arcs_len, const uint32_t *choice,
                       size_t choice_len, const int64_t *prices, size_t prices_len, int64_t cost, sigdorf_found *found);
@@ -297,8 +317,8 @@ const char *sigdorf_status_text(int32_t status);
 
 #if defined(__STDC_VERSION__) && __STDC_VERSION__ >= 201112L
 _Static_assert(sizeof(sigdorf_arc) == 16 && offsetof(sigdorf_arc, person) == 8 && offsetof(sigdorf_arc, object) == 12, "layout of an arc");
-_Static_assert(sizeof(sigdorf_found) == 32 && offsetof(sigdorf_found, persons) == 16 && offsetof(sigdorf_found, place) == 28, "layout of what is found");
-_Static_assert(sizeof(sigdorf_found_f64) == 32 && offsetof(sigdorf_found_f64, place) == 28, "layout of doubles' found");
+_Static_assert(sizeof(sigdorf_found) == 64 && offsetof(sigdorf_found, persons) == 16 && offsetof(sigdorf_found, place) == 28, "layout of what is found");
+_Static_assert(sizeof(sigdorf_found_f64) == 64 && offsetof(sigdorf_found_f64, place) == 28, "layout of doubles' found");
 _Static_assert(sizeof(sigdorf_watch) == 24 && offsetof(sigdorf_watch, progress) == 12 && offsetof(sigdorf_watch, asked) == 20, "layout of a watch");
 _Static_assert(sizeof(sigdorf_progress) == 40 && offsetof(sigdorf_progress, bids) == 24 && offsetof(sigdorf_progress, known) == 36, "layout of progress");
 _Static_assert(sizeof(sigdorf_table_f64) == 40 && offsetof(sigdorf_table_f64, gate) == 32, "layout of a table");

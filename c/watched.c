@@ -5,6 +5,7 @@
 #include <time.h>
 #include <unistd.h>
 
+#include "nulls.h"
 #include "sigdorf.h"
 
 #define NANOSECONDS 1000000000
@@ -66,8 +67,9 @@ int32_t sigdorf_solve_watched(uint32_t persons, uint32_t objects, const sigdorf_
     int32_t status = begin(&own, watch);
     if (status) return status;
     return end(&own, watch,
-               sigdorf_solve_by_watch(persons, objects, arcs, arcs_len, start, start_len, bids, &own, choice, choice_len, prices,
-                                      prices_len, hall_objects, hall_objects_len, found));
+               sigdorf_solve_by_watch(persons, objects, GIVEN(arcs, arcs_len), GIVEN(start, start_len), bids, &own,
+                                      GIVEN(choice, choice_len), GIVEN(prices, prices_len),
+                                      GIVEN(hall_objects, hall_objects_len), found));
 }
 
 int32_t sigdorf_solve_dense_watched(uint32_t persons, uint32_t objects, const int64_t *costs, size_t costs_len, size_t stride, int64_t none,
@@ -78,6 +80,7 @@ int32_t sigdorf_solve_dense_watched(uint32_t persons, uint32_t objects, const in
     int32_t status = begin(&own, watch);
     if (status) return status;
     return end(&own, watch,
-               sigdorf_solve_dense_by_watch(persons, objects, costs, costs_len, stride, none, start, start_len, bids, &own, choice,
-                                            choice_len, prices, prices_len, hall_objects, hall_objects_len, found));
+               sigdorf_solve_dense_by_watch(persons, objects, GIVEN(costs, costs_len), stride, none,
+                                            GIVEN(start, start_len), bids, &own, GIVEN(choice, choice_len),
+                                            GIVEN(prices, prices_len), GIVEN(hall_objects, hall_objects_len), found));
 }

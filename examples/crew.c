@@ -9,9 +9,9 @@ int main(void) {
         {45, 2, 1}, {60, 2, 3}, {55, 3, 0}, {70, 3, 1}, {40, 3, 3},
     };
     uint32_t choice[4] = {0}, hall_objects[4] = {0};
-    int64_t prices[4] = {0}, no_start[1] = {0};
+    int64_t prices[4] = {0};
     sigdorf_found found = {0};
-    int32_t status = sigdorf_solve(4, 0, arcs, sizeof arcs / sizeof *arcs, no_start, 0, SIGDORF_USUAL_BIDS, choice, 4, prices, 4,
+    int32_t status = sigdorf_solve(4, 0, arcs, sizeof arcs / sizeof *arcs, NULL, 0, SIGDORF_USUAL_BIDS, choice, 4, prices, 4,
                                    hall_objects, 4, &found);
     if (status != SIGDORF_OPTIMAL) {
         printf("status %d\n", (int)status);

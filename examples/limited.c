@@ -7,12 +7,12 @@
 
 enum { SIDE = 3000 };
 
-static int64_t *costs, *prices, no_start[1];
+static int64_t *costs, *prices;
 static uint32_t *choice, *hall_objects;
 
 static void solve(const char *by, sigdorf_watch watch) {
     sigdorf_found found = {0};
-    int32_t status = sigdorf_solve_dense_watched(SIDE, SIDE, costs, SIDE * SIDE, SIDE, INT64_MAX, no_start, 0, SIGDORF_USUAL_BIDS,
+    int32_t status = sigdorf_solve_dense_watched(SIDE, SIDE, costs, SIDE * SIDE, SIDE, INT64_MAX, NULL, 0, SIGDORF_USUAL_BIDS,
                                                  &watch, choice, SIDE, prices, SIDE, hall_objects, SIDE, &found);
     printf("%s: status %d, stopped %u\n", by, (int)status, (unsigned)watch.stopped);
 }

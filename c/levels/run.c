@@ -163,6 +163,12 @@ static void lift_gap(job *w, int64_t lower) {
     w->gap_unit = unit;
 }
 
+/* Leaves free whom a search that was ended has at a gap, which costs as much as a way out. */
+static void leave_gaps(job *w) {
+    for (size_t i = 0; !w->arcs && w->outlets && i < w->persons; i++)
+        if (is_gap(w, place_of(w, i, w->choice[i]))) w->choice[i] = (uint32_t)entry_for(w, i, w->width + i);
+}
+
 /* Takes what a call of the library's has found where it has no least assignment: a status. */
 static int take_found(job *w, int32_t status, const sigdorf_found *found) {
     w->kind = found->kind;
@@ -170,6 +176,7 @@ static int take_found(job *w, int32_t status, const sigdorf_found *found) {
     w->gap_unit = w->unit;
     w->hall_persons = found->persons, w->hall_objects = found->objects;
     if (status == SIGDORF_BRACKET && w->gate_cost && w->gap >= 0) lift_gap(w, found->lower);
+    if (status == SIGDORF_BRACKET) leave_gaps(w);
     if (status == SIGDORF_BRACKET) return w->q.takes_gap && w->gap >= 0 ? status : STRANGE;
     return status == SIGDORF_INFEASIBLE || status == SIGDORF_MEMORY ? status : STRANGE;
 }

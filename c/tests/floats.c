@@ -15,7 +15,8 @@
 #include <xmmintrin.h>
 #endif
 
-enum { MOST = 6, DIGITS = 70, UNTOUCHED = 0x55555555 };
+/* So many bytes are read and written of what is found: the rest is for later versions. */
+enum { MOST = 6, DIGITS = 70, UNTOUCHED = 0x55555555, WRITTEN = 32 };
 
 /* ---- Exact sums */
 
@@ -122,10 +123,10 @@ static result call(const given *g) {
     result t;
     uint32_t *choice = before(choice_fence, g->choice_len * sizeof *choice);
     uint32_t *hall = before(hall_fence, g->hall_len * sizeof *hall);
-    sigdorf_found_f64 *found = before(found_fence, sizeof *found);
+    sigdorf_found_f64 *found = before(found_fence, WRITTEN);
     memset(choice, 0x55, g->choice_len * sizeof *choice);
     memset(hall, 0x55, g->hall_len * sizeof *hall);
-    memset(found, 0x55, sizeof *found);
+    memset(found, 0x55, WRITTEN);
     memset(&t, 0x55, sizeof t);
     if (g->is_match)
         t.status = sigdorf_match(g->persons, g->objects, g->costs, g->costs_len, g->stride, g->gate, g->bids, choice,
@@ -135,7 +136,7 @@ static result call(const given *g) {
                                            g->choice_len, hall, g->hall_len, found);
     memcpy(t.choice, choice, g->choice_len * sizeof *choice);
     memcpy(t.hall, hall, g->hall_len * sizeof *hall);
-    t.found = *found;
+    memcpy(&t.found, found, WRITTEN);
     return t;
 }
 
@@ -233,15 +234,18 @@ static int is_hall(const given *g, const result *t) {
     return 1;
 }
 
-/* Whether an answer that a limit has ended is an assignment whose sum is at most its gap above the least one. */
+/* Whether an answer that a limit has ended is an assignment, without pairs above a gate, whose sum is at most its gap above
+ * the least one. */
 static int is_bracket(const search *s, const result *t) {
     amount sum = {{0}}, least = s->least;
     uint32_t taken = 0, pairs = 0, lines = s->lines;
     for (uint32_t i = 0; i < s->g->persons; i++) {
         if (t->choice[i] == SIGDORF_FREE && s->g->is_match) continue;
         if (t->choice[i] >= s->g->objects || taken >> t->choice[i] & 1) return 0;
+        double cost = s->g->costs[i * s->g->stride + t->choice[i]];
+        if (s->g->is_match && cost > s->g->gate) return 0;
         taken |= 1u << t->choice[i];
-        add(&sum, s->g->costs[i * s->g->stride + t->choice[i]], 1);
+        add(&sum, cost, 1);
         pairs++;
     }
     int is_sum = is_next_to(t->found.cost, &sum);

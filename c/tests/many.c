@@ -80,6 +80,13 @@ static int is_untouched(const result *t) {
     return are_same(t, &empty);
 }
 
+/* Whether nothing was written to what later versions may write. */
+static int is_reserved(const sigdorf_found_f64 *found) {
+    sigdorf_found_f64 empty;
+    memset(&empty, 0x55, sizeof empty);
+    return !memcmp(found->reserved, empty.reserved, sizeof empty.reserved);
+}
+
 /* Puts a table behind the others, with lengths that are right. */
 static double *put(given *g, uint32_t persons, uint32_t objects, size_t stride, double gate) {
     size_t length = persons ? (persons - 1) * stride + objects : 0, k = g->tables_len++;
@@ -128,6 +135,7 @@ static void solves(void) {
     want("all are solved", t.status, SIGDORF_OPTIMAL);
     want("the one between", t.statuses[1] == SIGDORF_OPTIMAL && t.choice[3] == 1 && t.choice[4] == 0, 1);
     want("its cost", t.found[1].cost == 3 && t.found[1].persons == 2 && t.found[1].kind == UNTOUCHED, 1);
+    want("what is reserved", is_reserved(&t.found[0]) && is_reserved(&t.found[1]) && is_reserved(&t.found[2]), 1);
     want("the others", are_answered(&g, &t), 1);
     g = around(0, CLEAR, 5);
     t = call(&g);

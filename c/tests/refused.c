@@ -89,6 +89,9 @@ static int32_t solve_doubles(void) { return doubles(parts, SIGDORF_USUAL_BIDS); 
 static int32_t solve_gaps(void) { return doubles(gaps, SIGDORF_USUAL_BIDS); }
 static int32_t stop_doubles(void) { return doubles(few, 0); }
 static int32_t match(void) { return sigdorf_match(2, 3, parts, 6, 3, 1.5, SIGDORF_USUAL_BIDS, choice, 2, &found_f64); }
+static int32_t watch_match(void) {
+    return sigdorf_match_watched(2, 3, parts, 6, 3, 1.5, SIGDORF_USUAL_BIDS, &none, choice, 2, &found_f64);
+}
 static int32_t check(void) { return sigdorf_check(2, 0, arcs, 4, (uint32_t[]){1, 2}, 2, (int64_t[]){0, 0}, 2, 7, &found); }
 static int32_t check_hall(void) { return sigdorf_check_hall(2, 0, both, 2, (uint32_t[]){0, 1}, 2, (uint32_t[]){1}, 1, &found); }
 
@@ -137,6 +140,13 @@ static many match_many(void) {
     return m;
 }
 
+static many watch_many(void) {
+    many m;
+    memset(&m, 0x55, sizeof m);
+    m.status = sigdorf_match_many_watched(tables, TABLES, SIGDORF_USUAL_BIDS, &none, m.choice, PERSONS, m.statuses, TABLES, m.found, TABLES);
+    return m;
+}
+
 /* Whether one table alone is without memory, of which nothing is written, and the others are as they are with it. */
 static int loses_one(const many *m, const many *whole) {
     many empty;
@@ -153,18 +163,18 @@ static int loses_one(const many *m, const many *whole) {
     return lost == 1 && m->status == SIGDORF_SOME;
 }
 
-static void refuse_each_of_many(void) {
-    many whole = match_many();
+static void refuse_each_of_many(const char *name, many (*call)(void)) {
+    many whole = call();
     long refused = 0, bad = whole.status != SIGDORF_OPTIMAL || taken != 0;
     for (;; refused++) {
         left = refused;
-        many m = match_many();
+        many m = call();
         bad += taken != 0;
         if (left >= 0) break;
         bad += !loses_one(&m, &whole);
     }
     left = -1;
-    printf("match of many tables: %ld allocations refused in turn\n", refused);
+    printf("%s: %ld allocations refused in turn\n", name, refused);
     *(bad == 0 ? &passed : &failed) += 1;
 }
 
@@ -230,7 +240,9 @@ int main(void) {
     refuse_each("solve under a time that has passed", stop_by_time, SIGDORF_BRACKET);
     refuse_each("solve of doubles, watched", watch_doubles, SIGDORF_OPTIMAL);
     refuse_each("match", match, SIGDORF_OPTIMAL);
-    refuse_each_of_many();
+    refuse_each("match, watched", watch_match, SIGDORF_OPTIMAL);
+    refuse_each_of_many("match of many tables", match_many);
+    refuse_each_of_many("match of many tables, watched", watch_many);
     want_few_allocations();
     want_little("solve of doubles", 0, 0);
     want_little("match", 1, 0);

@@ -163,7 +163,8 @@ static void limits(void) {
 
 /* Each status has a text of its own, and so has what is none. */
 static void texts(void) {
-    const int32_t statuses[] = {SIGDORF_OPTIMAL, SIGDORF_SIZES, SIGDORF_INFEASIBLE, SIGDORF_BRACKET, SIGDORF_REFUSED, SIGDORF_MEMORY, SIGDORF_START, SIGDORF_SOME, 1, -1};
+    const int32_t statuses[] = {SIGDORF_OPTIMAL, SIGDORF_SIZES, SIGDORF_INFEASIBLE, SIGDORF_BRACKET, SIGDORF_REFUSED, SIGDORF_MEMORY, SIGDORF_START, SIGDORF_SOME, SIGDORF_UNREACHED,
+                                1, -1};
     const size_t count = sizeof statuses / sizeof *statuses;
     want("the version", strcmp(sigdorf_version(), SIGDORF_VERSION), 0);
     for (size_t i = 0; i < count; i++)

@@ -9,7 +9,8 @@
 #include <stdlib.h>
 #include <string.h>
 
-enum { MOST = 12 };
+/* So many bytes are read and written of what is found, since a program of version 1.0 has no more. */
+enum { MOST = 12, WRITTEN = 32 };
 
 /* What a call is given: the problem, and lengths that may be wrong. */
 typedef struct given {
@@ -33,18 +34,18 @@ static told call_table(const given *g) {
     told t;
     uint32_t *choice = before(choice_fence, g->choice_len * sizeof *choice), *hall = before(hall_fence, g->hall_len * sizeof *hall);
     int64_t *prices = before(prices_fence, g->prices_len * sizeof *prices);
-    sigdorf_found *found = before(found_fence, sizeof *found);
+    sigdorf_found *found = before(found_fence, WRITTEN);
     memset(choice, 0x55, g->choice_len * sizeof *choice);
     memset(hall, 0x55, g->hall_len * sizeof *hall);
     memset(prices, 0x55, g->prices_len * sizeof *prices);
-    memset(found, 0x55, sizeof *found);
+    memset(found, 0x55, WRITTEN);
     memset(&t, 0x55, sizeof t);
     t.status = sigdorf_solve_dense(g->persons, g->objects, g->costs, g->costs_len, g->stride, g->none, g->start, g->start_len, g->bids, choice,
                                    g->choice_len, prices, g->prices_len, hall, g->hall_len, found);
     memcpy(t.choice, choice, g->choice_len * sizeof *choice);
     memcpy(t.hall, hall, g->hall_len * sizeof *hall);
     memcpy(t.prices, prices, g->prices_len * sizeof *prices);
-    t.found = *found;
+    memcpy(&t.found, found, WRITTEN);
     return t;
 }
 

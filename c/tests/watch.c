@@ -88,6 +88,13 @@ static int32_t solve_floats(uint32_t side, sigdorf_watch *watch) {
                                            &found_f64);
 }
 
+/* The middle cost of products of so many, so that half of all pairs are within it. */
+static double gate;
+
+static int32_t match_floats(uint32_t side, sigdorf_watch *watch) {
+    return sigdorf_match_watched(side, side, floats, side * side, side, gate, SIGDORF_USUAL_BIDS, watch, choice, side, &found_f64);
+}
+
 static double now(void) {
     struct timespec time;
     clock_gettime(CLOCK_MONOTONIC, &time);
@@ -178,6 +185,101 @@ static void ends_soon(call *solve, uint32_t side) {
     want("a time, within it", now() - began < 1, 1);
     want("a time, stopped", watch.stopped, 1);
     want("a time, pairs", is_assignment(side, &cost), 1);
+}
+
+/* ---- Matches */
+
+/* Whether pairs are within the gate, and nobody has two; what they cost together with the gate of each that is free. */
+static int are_pairs(uint32_t side, double *sum) {
+    static unsigned char is_taken[MOST];
+    memset(is_taken, 0, sizeof is_taken);
+    *sum = 0;
+    for (uint32_t i = 0; i < side; i++) {
+        double cost = choice[i] == SIGDORF_FREE ? gate : floats[i * side + choice[i] % side];
+        if (choice[i] != SIGDORF_FREE && (choice[i] >= side || is_taken[choice[i]]++)) return 0;
+        if (cost > gate) return 0;
+        *sum += cost;
+    }
+    return 1;
+}
+
+static void want_stopped_match(const char *what, uint32_t side, double least, sigdorf_watch watch) {
+    double sum;
+    memset(choice, 0x55, sizeof choice);
+    want(what, match_floats(side, &watch), SIGDORF_BRACKET);
+    want(what, watch.stopped, 1);
+    want(what, are_pairs(side, &sum), 1);
+    want(what, found_f64.gap >= 0 && sum - found_f64.gap <= least * (1 + 1e-12) && sum >= least * (1 - 1e-12), 1);
+    want(what, found_f64.kind, SIGDORF_BIDS);
+}
+
+/* A gate within the costs, and one beyond them all: each has another way through the costs. */
+static void matches(uint32_t side) {
+    int ends[2];
+    for (int k = 0; k < 2; k++) {
+        sigdorf_watch watch = NONE_AT_ALL;
+        double least;
+        gate = k ? 1e9 : floats[side / 2 * side + side / 2];
+        want("a match", match_floats(side, &watch), SIGDORF_OPTIMAL);
+        want("a match, its pairs", are_pairs(side, &least) && watch.stopped == 0, 1);
+        memcpy(other_choice, choice, sizeof choice);
+        watch.until = sigdorf_until(1000);
+        want("a match in time", match_floats(side, &watch) == SIGDORF_OPTIMAL && !memcmp(choice, other_choice, side * sizeof *choice), 1);
+        watch.until = 1;
+        want_stopped_match("a match, a time that has passed", side, least, watch);
+        pipe_of(ends);
+        watch.until = 0, watch.stop = ends[0];
+        if (write(ends[1], "", 1) != 1) abort();
+        want_stopped_match("a match, a pipe that was written to", side, least, watch);
+        close(ends[0]), close(ends[1]);
+    }
+    sigdorf_watch watch = NONE_AT_ALL;
+    want("another length", sigdorf_match_watched(2, 2, floats, 4, 2, 1, 9, &watch, choice, 1, &found_f64), SIGDORF_SIZES);
+    want("no gate", sigdorf_match_watched(2, 2, floats, 4, 2, NAN, 9, &watch, choice, 2, &found_f64), SIGDORF_REFUSED);
+    want("its watch", watch.stopped | watch.asked, 0);
+}
+
+enum { TABLES = 6, SMALL = 3 };
+
+/* Tables of whom the middle ones are as large as the side, each with the watch's answer or none. */
+static void many(uint32_t side) {
+    static uint32_t chosen[2 * MOST + 4 * SMALL];
+    sigdorf_table_f64 tables[TABLES];
+    sigdorf_found_f64 founds[TABLES];
+    int32_t statuses[TABLES];
+    const double few[] = {1, 9, 9, 9, 0.5, 9, 9, 0.75, 9};
+    for (int k = 0; k < TABLES; k++) {
+        int is_small = k != 2 && k != 3;
+        uint32_t own = is_small ? SMALL : side;
+        tables[k] = (sigdorf_table_f64){own, own, is_small ? few : floats, (size_t)own * own, own, is_small ? 2 : 1e9};
+    }
+    size_t persons = 2 * (size_t)side + 4 * SMALL;
+#define MANY(watch)                                                                                                     \
+    (memset(statuses, 0x55, sizeof statuses), memset(founds, 0x55, sizeof founds), memset(chosen, 0x55, sizeof chosen), \
+     sigdorf_match_many_watched(tables, TABLES, SIGDORF_USUAL_BIDS, watch, chosen, persons, statuses, TABLES, founds, TABLES))
+    sigdorf_watch watch = NONE_AT_ALL;
+    want("many", MANY(&watch), SIGDORF_OPTIMAL);
+    want("many, not stopped", watch.stopped, 0);
+    watch.until = 1;
+    want("many after the time", MANY(&watch), SIGDORF_SOME);
+    want("many after the time, stopped", watch.stopped, 1);
+    int bad = 0;
+    for (int k = 0; k < TABLES; k++) bad += statuses[k] != SIGDORF_UNREACHED || founds[k].kind != 0x55555555;
+    for (size_t i = 0; i < persons; i++) bad += chosen[i] != 0x55555555;
+    want("nothing is written", bad, 0);
+    watch.until = sigdorf_until(0.03);
+    double began = now();
+    want("many in a time", MANY(&watch), SIGDORF_SOME);
+    want("many in a time, within it", now() - began < 1, 1);
+    int is_ended = statuses[2] == SIGDORF_BRACKET && statuses[3] == SIGDORF_UNREACHED;
+    is_ended |= statuses[2] == SIGDORF_OPTIMAL && statuses[3] == SIGDORF_BRACKET;
+    want("the first ones are answered", statuses[0] | statuses[1] | (int32_t)chosen[0], 0);
+    want("one is ended", is_ended, 1);
+    want("the last ones are not reached", statuses[4] == SIGDORF_UNREACHED && statuses[5] == SIGDORF_UNREACHED, 1);
+    want("and not written", chosen[persons - 1] == 0x55555555 && founds[5].persons == 0x55555555, 1);
+    want("other lengths",
+         sigdorf_match_many_watched(tables, TABLES, 1, &watch, chosen, persons - 1, statuses, TABLES, founds, TABLES), SIGDORF_SIZES);
+    want("other lengths, watch", watch.stopped, 0);
 }
 
 /* ---- What a search tells */
@@ -299,6 +401,7 @@ int main(int count, char **words) {
     ends_at_once(solve_table, SOME, least);
     ends_at_once(solve_list, SOME, least);
     ends_at_once(solve_floats, SOME, least);
+    matches(SOME);
     tells(solve_table, SOME, least);
     tells(solve_list, SOME, least);
     tells(solve_sparse, MOST, take_sparse(MOST));
@@ -307,6 +410,7 @@ int main(int count, char **words) {
         ends_soon(solve_table, MOST);
         ends_soon(solve_list, MOST);
         ends_soon(solve_floats, MOST);
+        many(MOST);
     }
     free(costs), free(floats), free(arcs);
     printf("%d passed, %d failed\n", passed, failed);

@@ -3,8 +3,9 @@ import os
 
 from calls import ROOT, VERSION, PackageTest, run, wants, wants_library, wants_program
 
-NAMES = ["sigdorf_check", "sigdorf_check_hall", "sigdorf_match", "sigdorf_match_many", "sigdorf_python_end",
-         "sigdorf_python_solve", "sigdorf_solve", "sigdorf_solve_by_messages",
+NAMES = ["sigdorf_check", "sigdorf_check_hall", "sigdorf_match", "sigdorf_match_many",
+         "sigdorf_match_many_watched", "sigdorf_match_watched", "sigdorf_python_end", "sigdorf_python_solve",
+         "sigdorf_solve", "sigdorf_solve_by_messages",
          "sigdorf_solve_dense", "sigdorf_solve_dense_f64", "sigdorf_solve_dense_f64_watched", "sigdorf_solve_dense_watched",
          "sigdorf_solve_watched", "sigdorf_status_text", "sigdorf_until", "sigdorf_version"]
 CMAKE = """cmake_minimum_required(VERSION 3.13)

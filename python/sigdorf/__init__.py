@@ -15,9 +15,9 @@
     k_best(table, k)                                the k best assignments, the best first
 
 Costs count exactly as they stand, floats too (docs/EXACT.md). Where there is no full assignment, each raises Infeasible, which names the rows
-that together know too few columns. Where a limit ended the search, `solve` answers a solution whose `is_optimal` is False, and the two calls of
-SciPy's names raise Unsettled, which holds it. An argument that is at fault is a ValueError. What is proved is the library that these functions
-call; this module itself is only tested.
+that together know too few columns. Where a limit ended the search, `solve` answers a solution whose `is_optimal` is False, as `match` does with
+`seconds`, and the two calls of SciPy's names raise Unsettled, which holds it. An argument that is at fault is a ValueError. What is proved is the
+library that these functions call; this module itself is only tested.
 """
 try:
     import numpy
@@ -26,7 +26,7 @@ except ModuleNotFoundError:
 del numpy
 
 from .assignment import check, solve
-from .best import Ranked, k_best
+from .best import Ranked, Ranking, k_best
 from .cardinality import max_cardinality_match
 from .certified import certify
 from .edges import Edges
@@ -47,6 +47,7 @@ __all__ = [
     "Match",
     "Mistyped",
     "Ranked",
+    "Ranking",
     "Refused",
     "Solution",
     "Solver",

@@ -23,7 +23,7 @@
 #include "levels.h"
 
 /* Rises where what Python calls changes, so that an extension of other sources isn't used: fast.py has the same. */
-#define INTERFACE 8
+#define INTERFACE 9
 /* With fewer entries a call holds the lock: what giving it up costs would count. */
 #define FEWEST 2000
 /* So many bytes of working memory at most are kept for the next call. */
@@ -77,6 +77,12 @@ static int take_watch_of(PyObject *const *arguments, Py_ssize_t count, Py_ssize_
                            .progress = (int32_t)PyLong_AsLong(PyTuple_GetItem(given, 2))};
     *watch = own;
     return PyErr_Occurred() != NULL;
+}
+
+/* Has a problem be watched. Who has set a time takes what is found by then. */
+static void set_watch(question *q, sigdorf_watch *watch) {
+    q->watch = watch;
+    q->takes_gap = q->wants_prices || (watch && watch->until);
 }
 
 /* The numbers of a buffer, of one of these types, one after another, in so many dimensions: NULL where it has others.
@@ -160,7 +166,7 @@ static int take_start(task *t, PyObject *given) {
 static int begin(task *t, workshop *shop, PyObject *problem, int maximize, PyObject *const *more) {
     question *q = &t->w.q;
     q->most_entries = SIGDORF_MOST_ARCS;
-    q->takes_gap = q->wants_prices;
+    set_watch(q, q->watch);
     q->bids = more ? PyLong_AsUnsignedLongLong(more[2]) : SIGDORF_USUAL_BIDS;
     if (take_problem(t, problem) || (more && (take_limit(q, more[0]) || take_start(t, more[1])))) return 1;
     return PyErr_Occurred() || !calls.solve || q->count > SIGDORF_MOST_ARCS || begin_job(&t->w, shop, &calls, maximize);
@@ -244,6 +250,16 @@ static PyObject *pairs_of(const job *w, int parts) {
     return tuple;
 }
 
+/* These parts, and where a limit has ended the search its gap: a number and its unit. */
+static PyObject *with_gap(const job *w, PyObject *parts) {
+    if (!parts || !w->gap) return parts;
+    PyObject *gap = Py_BuildValue("(Li)", (long long)w->gap, w->gap_unit);
+    PyObject *all = gap ? PySequence_Concat(parts, gap) : NULL;
+    Py_DECREF(parts);
+    Py_XDECREF(gap);
+    return all;
+}
+
 /* A whole number of 128 bits. */
 static PyObject *number_of(__int128 number) {
     if (number == (int64_t)number) return PyLong_FromLongLong((long long)number);
@@ -318,7 +334,7 @@ static PyObject *solution_of(const job *w) {
 static PyObject *answer_of(const task *t) {
     const job *w = &t->w;
     if (!t->is_found) return Py_NewRef(Py_None);
-    return w->q.wants_prices ? solution_of(w) : pairs_of(w, w->q.has_limit ? PARTS : 2);
+    return w->q.wants_prices ? solution_of(w) : with_gap(w, pairs_of(w, w->q.has_limit ? PARTS : 2));
 }
 
 /* The answers of some tasks. */
@@ -367,7 +383,7 @@ static PyObject *slices_of(const task *t, PyObject *const *arrays, size_t *from)
         else
             PyTuple_SetItem(tuple, part, slice);
     }
-    return tuple;
+    return with_gap(&t->w, tuple);
 }
 
 /* The answers of some tasks under limits. Small arrays of their own would take longer than to solve small tables. */
@@ -419,7 +435,7 @@ static size_t begin_all(task *tasks, Py_ssize_t number, workshop *shop, PyObject
         tasks[k].w.q.wants_prices = !limits;
         tasks[k].can_run = !begin(&tasks[k], shop, PyTuple_GetItem(problems, k), maximize, limits ? more : NULL);
         if (tasks[k].can_run) entries += tasks[k].w.q.count;
-        if (tasks[k].w.q.count >= FEWEST) tasks[k].w.q.watch = watch;
+        if (tasks[k].w.q.count >= FEWEST) set_watch(&tasks[k].w.q, watch);
         PyErr_Clear();
     }
     return entries;
@@ -507,7 +523,7 @@ static PyMethodDef methods[] = {
     METHOD(bind, "bind(dense, arcs): the addresses of the library's sigdorf_solve_dense_watched and sigdorf_solve_watched."),
     METHOD(
         found,
-        "found(problem, maximize, wants_prices, limit, start, bids, watch=None): the pairs of a least assignment, or the parts of a solution, or None."),
+        "found(problem, maximize, wants_prices, limit, start, bids, watch=None): the pairs of a least assignment, or the parts of a solution, or None; a watch's time may leave pairs with a gap."),
     METHOD(found_all,
            "found_all(tables, maximize, watch=None): the parts of the solution of each, or None, with the lock given up once."),
     METHOD(matched_all,

@@ -9,6 +9,7 @@ from .asked import Asked, bids_of
 from .faults import Refused, Unsettled
 from .library import USUAL_BIDS
 from .solution import Solution
+from .waiting import time_limit
 
 
 def certify(
@@ -19,16 +20,17 @@ def certify(
     maximize: bool = False,
     missing: typing.Literal["forbidden"] | None = None,
     bids: int = USUAL_BIDS,
+    seconds: float | None = None,
 ) -> Solution:
     """The :class:`Solution` of an assignment, whoever found it, with prices that show that none costs less; it passes :func:`check`.
 
     rows, columns: the pairs, in any order: whole numbers from 0. SciPy's linear_sum_assignment answers such two.
     table: as :func:`solve` takes it: a matrix, dense or sparse, or a table with names.
-    `maximize`, `missing` and `bids` are those of :func:`solve`.
+    `maximize`, `missing` and `bids` are those of :func:`solve`; `seconds` is a limit of time, from 0.
 
     Raises :class:`Refused` where these pairs are no full assignment of the table, or where one costs less, which the
     message tells, exactly compared. Raises Infeasible where there is no full assignment, Unsettled where a limit ended
-    the search, and ValueError where an argument is at fault.
+    the search before either was known, and ValueError where an argument is at fault.
 
     >>> sigdorf.certify([0, 1], [1, 0], [[1, 2], [1, 4]])
     Solution(cost=3, pairs={0: 1, 1: 0})
@@ -37,18 +39,18 @@ def certify(
         ...
     sigdorf.faults.Refused: the assignment costs 5, and the least one costs 3
     """
-    asked, bids = Asked(table, maximize=maximize, missing=missing), bids_of(bids)
+    watch, asked, bids = time_limit(seconds), Asked(table, maximize=maximize, missing=missing), bids_of(bids)
     sides = [whole_numbers(side, name, *INT64) for side, name in ((rows, "rows"), (columns, "columns"))]
     if len(sides[0]) != len(sides[1]):
         raise ValueError("rows and columns must be as many")
     pairs = [side[numpy.argsort(sides[0], kind="stable")] for side in sides]
     entries = _entries_of(asked.lists, *pairs)
-    least = asked.solution(None, bids)
-    if least.gap:
-        raise Unsettled(least)
+    least = asked.solution(None, bids, watch=watch)
     cost = asked.problem.costs.total(entries)
-    if cost != least.exact_cost:
+    if cost < least.exact_cost if asked.maximize else cost > least.exact_cost:
         raise Refused(_told(asked, cost, least))
+    if least.gap:
+        raise Unsettled(least, "seconds" if watch is not None and watch.is_over() else "bids")
     labels, costs = asked.labels(*pairs), asked.problem.costs.at(entries)
     claim = least._replace(rows=pairs[0], columns=pairs[1], entries=entries, labels=labels, costs=costs)
     asked.check(claim)
@@ -77,7 +79,7 @@ def _entries_of(lists, rows, columns):
 
 
 def _told(asked, cost, least):
-    """How far an assignment is from the least one; where floats show no difference, the difference."""
-    shown, best = asked.problem.costs.shown(cost), "greatest" if asked.maximize else "least"
+    """How far an assignment is from the least one, or from a better one; where floats show no difference, the difference."""
+    shown, best = asked.problem.costs.shown(cost), "the greatest" if asked.maximize else "the least"
     more = "" if shown != least.cost else f"; they differ by {abs(cost - least.exact_cost)}"
-    return f"the assignment costs {shown}, and the {best} one costs {least.cost}{more}"
+    return f"the assignment costs {shown}, and {'another' if least.gap else best} one costs {least.cost}{more}"

@@ -18,7 +18,7 @@ from .whole import priced
 # A call of a table with fewer entries, or of a list with fewer, ends so soon that a thread of its own isn't worth its time.
 FEWEST, FEWEST_LISTED = 1 << 16, 1 << 13
 # That of the extension of these sources; one that was built of others isn't used.
-INTERFACE = 8
+INTERFACE = 9
 ARRAY = numpy.ndarray
 FLOAT, WHOLE, NATURAL = map(numpy.dtype, ("f8", "i8", "u8"))
 
@@ -88,12 +88,12 @@ def found(problem, maximize, wants_prices, limit=None, start=None, bids=USUAL_BI
     return call_waiting(is_long, watch, _extension.found, problem, maximize, wants_prices, limit, start, bids)
 
 
-def found_under_limits(tables, limits, maximize, bids):
+def found_under_limits(tables, limits, maximize, bids, watch=None):
     """What :func:`found` answers of each of some plain tables and its limit, by one call; arrays are slices of longer ones."""
     if _extension is None:
         return [None] * len(tables)
     is_long = any(table.size >= FEWEST for table in tables)
-    return call_waiting(is_long, None, _extension.matched_all, tables, limits, maximize, bids)
+    return call_waiting(is_long, watch, _extension.matched_all, tables, limits, maximize, bids)
 
 
 def solution_of(problem, maximize, start=None, bids=USUAL_BIDS, watch=None):

@@ -70,7 +70,7 @@ class Unsettled(RuntimeError):
     """A limit ended the search before the least cost (or the most) was found.
 
     `solution` is what the search came to: a full assignment, its cost, and the bound that none is better than. It is no ValueError: those who
-    take that for a problem without an assignment would be wrong here.
+    take that for a problem without an assignment would be wrong here. `limit` is which limit it was: bids or seconds.
 
     >>> inf = float("inf")
     >>> try:
@@ -80,10 +80,10 @@ class Unsettled(RuntimeError):
     True
     """
 
-    def __init__(self, solution):
-        super().__init__(solution)
-        self.solution = solution
+    def __init__(self, solution, limit="bids"):
+        super().__init__(solution, limit)
+        self.solution, self.limit = solution, limit
 
     def __str__(self):
         cost, bound = self.solution.cost, self.solution.bound
-        return f"a limit ended the search: an assignment of cost {cost} was found, and none is better than {bound}; more bids= may settle it"
+        return f"a limit ended the search: an assignment of cost {cost} was found, and none is better than {bound}; more {self.limit}= may settle it"

@@ -46,6 +46,7 @@ CLAIM_FAULTS = {
 
 class Found(ctypes.Structure):
     _fields_ = [(name, ctypes.c_int64) for name in ("cost", "lower")] + [(name, ctypes.c_uint32) for name in ("persons", "objects", "kind", "place")]
+    _fields_ += [("reserved", 4 * ctypes.c_uint64)]
 
 
 class Watched(ctypes.Structure):

@@ -12,7 +12,7 @@ from .asked import Asked, bids_of
 from .faults import note
 from .library import USUAL_BIDS
 from .solution import Solution
-from .waiting import Watch
+from .waiting import Watch, time_limit
 
 MOST_THREADS = 1024
 # Of arrays that the extension solves in one call: so many entries and so many arrays at most, and so few entries that no more calls are worth while;
@@ -27,12 +27,15 @@ def solve_many(
     maximize: bool = False,
     decimals: int | None = None,
     bids: int = USUAL_BIDS,
-) -> list[Solution]:
+    seconds: float | None = None,
+) -> list[Solution | None]:
     """The Solution of each problem, in their order.
 
     problems: of each what :func:`solve` takes: a tuple of its lists (rows, columns, costs, and a shape or none), or a table.
     threads: how many work at a time, from 1 to 1024; the processors that the process may use, where it is left out.
-    `maximize`, `decimals` and `bids` are those of :func:`solve`, for all problems.
+    maximize, decimals, bids: those of :func:`solve`, for all problems.
+    seconds: a limit of time for all problems together, from 0. What is under way then is answered as by :func:`solve`,
+        which `is_optimal` tells; no other problem is begun, and in its place stands None.
 
     The library works side by side, and what Python and numpy do around it one after another. Arrays are solved some dozens at a time by the
     extension, where it was built, and all else one by one.
@@ -41,14 +44,17 @@ def solve_many(
 
     >>> [solution.cost for solution in sigdorf.solve_many([[[4, 1], [2, 3]], ([0, 1], [0, 1], [7, 8])], threads=2)]
     [3, 15]
+    >>> sigdorf.solve_many([[[4, 1], [2, 3]]], seconds=0)
+    [None]
     """
+    watch = time_limit(seconds)
     problems = list(problems)
     threads = len(os.sched_getaffinity(0)) if threads is None else number(threads, "threads", 1, MOST_THREADS)
     words = {"maximize": truth(maximize, "maximize"), "decimals": decimals, "bids": bids_of(bids)}
     parts = _parts(problems, words, threads)
     if threads == 1 or len(parts) < 2:
-        return _in_order(problems, parts, [_solved(problems, part, words, None) for part in parts])
-    pool, watch = concurrent.futures.ThreadPoolExecutor(threads), Watch()
+        return _in_order(problems, parts, [_solved(problems, part, words, watch) for part in parts])
+    pool, watch = concurrent.futures.ThreadPoolExecutor(threads), watch or Watch()
     stop = watch.stopping()
     try:
         answers = [pool.submit(_solved, problems, part, words, watch) for part in parts]
@@ -83,12 +89,18 @@ def _parts(problems, words, threads):
 def _solved(problems, part, words, watch):
     """The Solutions of a part, together where that can be."""
     together = [None] * len(part)
-    if len(part) > 1:
+    if len(part) > 1 and not _is_over(watch):
         together = fast.solutions_of([fast.plain(problems[number]) for number in part], words["maximize"], watch)
     return [_solved_alone(problems, number, words, watch) if solution is None else solution for number, solution in zip(part, together)]
 
 
+def _is_over(watch):
+    return watch is not None and watch.is_over()
+
+
 def _solved_alone(problems, number, words, watch):
+    if _is_over(watch):
+        return None
     problem = problems[number]
     try:
         lists = problem if isinstance(problem, tuple) else (problem,)

@@ -3,6 +3,7 @@ import contextlib
 import math
 import os
 import threading
+import time
 
 from .arguments import attempt
 from .progress import Progress
@@ -31,6 +32,10 @@ class Watch:
     def __init__(self, seconds=math.inf, progress=None, began=0):
         self._until = 0 if math.isinf(seconds) else began + int(min(seconds * NANOSECONDS, MOST_NANOSECONDS))
         self.progress, self._stop = progress, None
+
+    def is_over(self):
+        """Whether the time has come at which searches end."""
+        return self._until != 0 and time.monotonic_ns() >= self._until
 
     def stopping(self):
         """The pipe that ends all searches as soon as it is written to."""
@@ -75,6 +80,11 @@ def watch_of(seconds, progress, maximize, began):
     if progress is not None and not callable(progress):
         raise ValueError("progress must be something to call, with a bound and a cost")
     return Watch(seconds_of(seconds), None if progress is None else Progress(progress, maximize), began)
+
+
+def time_limit(seconds):
+    """The Watch of a limit of time alone, from now on, or None. A ValueError says that it is at fault."""
+    return None if seconds is None else Watch(seconds_of(seconds), None, time.monotonic_ns())
 
 
 def call_waiting(is_long, watch, call, *arguments):

@@ -222,7 +222,7 @@ class Together(Limited):
         """No array without a fault is looked at once more."""
         random, asked = numpy.random.default_rng(7), []
         tables = [random.integers(0, 9, (4, 5)).astype(kind) for kind in KINDS for _ in range(3)]
-        with unittest.mock.patch.object(gated_many, "match", lambda *words, **more: asked.append(words)):
+        with unittest.mock.patch.object(gated_many, "match_by", lambda *words, **more: asked.append(words[1:])):
             sigdorf.match_many(tables, 5)
             sigdorf.match_many([table for table in tables if table.dtype.kind == "f"], 2.5)
         self.assertEqual([table.dtype.str for table, _ in asked], [])

@@ -327,10 +327,14 @@ calls = {
     "progress": lambda: sigdorf.solve(table / 3, progress=told),
     "seconds": lambda: sigdorf.solve(table, seconds=1000),
     "match": lambda: sigdorf.match(table, 2**40),
+    "match_seconds": lambda: sigdorf.match(table, 2**40, seconds=1000),
     "match_many": lambda: sigdorf.match_many([table, table], 2**40),
+    "max_cardinality": lambda: sigdorf.max_cardinality_match(table),
+    "Solver": lambda: sigdorf.Solver().solve(table),
     "solve_many": lambda: sigdorf.solve_many([small] * 8, 2),
     "certify": lambda: sigdorf.certify(range(1_500), range(1_500), small),
-    "k_best": lambda: sigdorf.k_best(small, 2),
+    "solve_many_seconds": lambda: sigdorf.solve_many([small] * 8, 1, seconds=1000),
+    "k_best": lambda: sigdorf.k_best(small, 2, seconds=1000),
 }
 call = calls[sys.argv[1]]
 print("begun", flush=True)
@@ -342,7 +346,8 @@ except KeyboardInterrupt:
 
 
 class Interrupted(Limited):
-    CALLS = ("linear_sum_assignment", "solve", "progress", "seconds", "match", "match_many", "solve_many", "certify", "k_best")
+    CALLS = ("linear_sum_assignment", "solve", "progress", "seconds", "match", "match_many", "solve_many", "certify", "k_best") + (
+        "match_seconds", "max_cardinality", "Solver", "solve_many_seconds")
 
     def test_keyboard(self):
         """Ctrl-C raises at once, and nothing of the search is left."""

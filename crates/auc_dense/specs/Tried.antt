@@ -1,6 +1,7 @@
 -- What shows that an assignment of a table costs least: at the prices no entry is better for a person than his own, and
 -- an object that nobody has is free. And what shows a bound of what any assignment costs.
-use Rattle.std.specs.Prelude.{◌≡◌, ◌≢◌, ◌⊎◌, Bool, true, ℕ, ◌+◌, ◌<◌, get_or, List, length, map, All, ℤ, pos, ◌+ℤ◌, ◌-ℤ◌, ◌*ℤ◌, ◌≤ℤ◌}
+use Rattle.std.specs.Prelude.{◌≡◌, ◌≢◌, ◌⊎◌, Bool, true, ℕ, ◌+◌, ◌<◌, get_or, List, length, map, All, ℤ, pos, neg_ℤ, ◌+ℤ◌, ◌-ℤ◌, ◌*ℤ◌, ◌≤ℤ◌, ◌≤◌}
+use Rattle.auc_graph.specs.declared.limits.TheConstants.{MOST_COST, MOST_PERSONS}
 use Rattle.auc_graph.specs.Assignment.{total, total_cost}
 use Rattle.auc_graph.specs.Price.{IsPrice}
 use Rattle.auc_claim.specs.declared.lists.Pick.{Pick}
@@ -8,7 +9,9 @@ use Rattle.auc_claim.specs.declared.reason.Reason.{Reason}
 use Rattle.auc_claim.specs.Claim.{chosen}
 use Rattle.auc_call.specs.declared.solved.Solved.{Solved}
 use Rattle.auc_call.specs.declared.solved.Solved.TheVariants.{Optimal, Infeasible, Bracket}
-use Rattle.auc_dense.specs.Table.{row_of}
+use Rattle.auc_table.specs.declared.proposal.Proposal.{Proposal}
+use Rattle.auc_table.specs.declared.table.Table.{Table}
+use Rattle.auc_dense.specs.Table.{IsTable, row_of}
 
 abbrev pub no_pick : Pick
 no_pick = record { cost = pos 0; object = 0 }
@@ -26,11 +29,13 @@ abbrev pub IsNoneBelow : ℤ → List ℤ → List ℤ → ℤ → ℕ → Type 
 IsNoneBelow gap row prices least place =
     (object : ℕ) → object < place → get_or row object (pos 0) ≢ gap → least ≤ℤ worth_at row prices object
 
--- The pick is an entry of the row that is no gap.
+-- The pick is an entry of the row that is no gap, and a cost.
 pub record IsPickIn (gap : ℤ) (row : List ℤ) (pick : Pick) : Type 0 where
   pub inside : pick.object < length row
   pub cost : pick.cost ≡ get_or row pick.object (pos 0)
   pub own : pick.cost ≢ gap
+  pub low : neg_ℤ MOST_COST ≤ℤ pick.cost
+  pub high : pick.cost ≤ℤ MOST_COST
 
 -- And none of these is better.
 pub record IsBestIn (gap : ℤ) (row prices : List ℤ) (pick : Pick) : Type 0 where
@@ -72,6 +77,18 @@ pub record IsPlainPrice (scale price : ℤ) : Type 0 where
 -- no two persons pick the same object
 abbrev pub AreApart : List Pick → Type 0
 AreApart picks = (one other : ℕ) → one < other → other < length picks → (pick_at picks one).object ≢ (pick_at picks other).object
+
+-- So many persons are right, and each row lies within the costs.
+pub record IsGiven (t : Table) : Type 0 where
+  pub few : t.persons ≤ MOST_PERSONS
+  pub table : IsTable t.persons t.objects t.stride (length t.costs.now)
+
+-- A proposal has an object for each person, and a price for each object.
+pub record IsWhole (t : Table) (proposal : Proposal) : Type 0 where
+  pub choice : length proposal.objects.items ≡ t.persons
+  pub priced : length proposal.prices.items ≡ t.objects
+  pub fair : All (IsPlainPrice (pos (t.persons + 1))) proposal.prices.items
+  pub prices : All IsPrice proposal.prices.items
 
 -- The picks and the prices show that the picks are a least assignment of the table.
 pub record ShowLeast (persons objects : ℕ) (costs : List ℤ) (stride : ℕ) (gap : ℤ) (picks : List Pick) (prices : List ℤ) : Type 0 where

@@ -1,12 +1,9 @@
 //! What a search over a table leaves that was ended: an assignment, and a bound of what any costs. Nothing is known of
 //! its proposal, so all of it is looked at.
 
-ghost use Rattle.std.specs.Prelude.{◌≡◌, ◌<◌, ◌≤◌, ◌+◌, ◌^◌, pos, neg_ℤ, ◌≤ℤ◌, All, IfOk, IfSome, length, map};
+ghost use Rattle.std.specs.Prelude.{◌≡◌, ◌<◌, ◌≤◌, ◌^◌, All, IfOk, IfSome, length};
 ghost use Rattle.auc_graph.specs.declared.limits.TheConstants.{MOST_PERSONS};
-ghost use Rattle.auc_graph.specs.Assignment.{total};
-ghost use Rattle.auc_graph.specs.Price.{IsPrice};
-ghost use Rattle.auc_dense.specs.Table.{IsTable};
-ghost use Rattle.auc_dense.specs.Tried.{IsPlainPrice, ShowBracket, lower_at, pick_worth};
+ghost use Rattle.auc_dense.specs.Tried.{IsGiven, IsWhole, ShowBracket, lower_at};
 
 use crate::table::row_of;
 use crate::trying::{are_held_apart, are_others_free, best_picks, picks_in};
@@ -35,7 +32,7 @@ fn best_objects(
     gap: i64,
     prices: &[i64],
 ) -> Result<Vec<u32>, AllocError>
-    requires { IsTable table.now.persons table.now.objects table.now.stride (length table.now.costs.now) }
+    requires { IsGiven table.now }
     ensures { IfOk result (λ best. length best.items ≡ table.now.persons) }
 {
     let mut best = Vec::with_capacity(alloc, table.persons as usize)?;
@@ -46,45 +43,22 @@ fn best_objects(
     Ok(best)
 }
 
-/// What picks cost together, with the prices of their objects.
-fn worth_of(picks: &[Pick], prices: &[i64]) -> i128
-    requires few { length picks.now ≤ MOST_PERSONS }
-    requires inside { All (λ pick. pick.object < length prices.now) picks.now }
-    ensures total { result ≡ total (map (pick_worth prices.now) picks.now) }
-    ensures low { neg_ℤ (pos (2 ^ 96)) ≤ℤ result }
-    ensures high { result ≤ℤ pos (2 ^ 96) }
-{
-    let mut sum: i128 = 0;
-    for pick in picks {
-        sum += pick.cost as i128;
-        sum += prices[pick.object as usize] as i128;
-    }
-    sum
-}
-
-/// The sum of all prices.
-fn total_of(prices: &[i64]) -> i128
-    requires few { length prices.now < 2 ^ 32 }
-    ensures total { result ≡ total prices.now }
-    ensures low { neg_ℤ (pos (2 ^ 96)) ≤ℤ result }
-    ensures high { result ≤ℤ pos (2 ^ 96) }
-{
-    let mut sum: i128 = 0;
-    for price in prices {
-        sum += *price as i128;
-    }
-    sum
-}
-
-/// The bound that prices give (weak duality): the best of each row, with its price, less all prices. None where it has
-/// more than 64 bits.
+/// The bound that prices give (weak duality): what the best picks cost with their prices, less all prices. None where
+/// it has more than 64 bits.
 fn lower_of(bests: &[Pick], prices: &[i64]) -> Option<i64>
     requires few { length bests.now ≤ MOST_PERSONS }
     requires many { length prices.now < 2 ^ 32 }
     requires inside { All (λ pick. pick.object < length prices.now) bests.now }
     ensures { IfSome result (λ lower. lower ≡ lower_at prices.now bests.now) }
 {
-    let lower = worth_of(bests, prices) - total_of(prices);
+    let mut lower: i128 = 0;
+    for pick in bests {
+        lower += pick.cost as i128;
+        lower += prices[pick.object as usize] as i128;
+    }
+    for price in prices {
+        lower -= *price as i128;
+    }
     match i64::try_from(lower) {
         Ok(lower) => Some(lower),
         Err(_) => None,
@@ -106,12 +80,8 @@ pub(crate) fn bound(
     gap: i64,
     proposal: &Proposal,
 ) -> Result<Option<Bounded>, AllocError>
-    requires few { table.now.persons ≤ MOST_PERSONS }
-    requires table { IsTable table.now.persons table.now.objects table.now.stride (length table.now.costs.now) }
-    requires choice { length proposal.now.objects.items ≡ table.now.persons }
-    requires len { length proposal.now.prices.items ≡ table.now.objects }
-    requires plain { All (IsPlainPrice (pos (table.now.persons + 1))) proposal.now.prices.items }
-    requires prices { All IsPrice proposal.now.prices.items }
+    requires table { IsGiven table.now }
+    requires whole { IsWhole table.now proposal.now }
     ensures { IfOk result (λ o. IfSome o (λ bounded. ShowBracket table.now.persons table.now.objects
         table.now.costs.now table.now.stride gap bounded.picks.items proposal.now.prices.items bounded.lower)) }
 {

@@ -7,8 +7,7 @@ ghost use Rattle.auc_call.specs.Drivers.{IsAskedSolve};
 ghost use Rattle.auc_call.specs.Start.{start_fault};
 ghost use Rattle.auc_dense.specs.Quick.{IsQuick};
 ghost use Rattle.auc_dense.specs.Table.{IsTable, table_arcs};
-ghost use Rattle.auc_dense.specs.Tried.{IsPlainPrice, IsShown, scaled};
-ghost use Rattle.auc_graph.specs.declared.limits.TheConstants.{MOST_PERSONS};
+ghost use Rattle.auc_dense.specs.Tried.{IsGiven, IsPlainPrice, IsShown, scaled};
 
 use crate::bounding::{Bounded, bound};
 use crate::trying::{is_whole, scale_of, try_out};
@@ -53,8 +52,7 @@ fn show(
     proposal: &Proposal,
     is_ended: bool,
 ) -> Result<Option<Shown>, AllocError>
-    requires few { table.now.persons ≤ MOST_PERSONS }
-    requires table { IsTable table.now.persons table.now.objects table.now.stride (length table.now.costs.now) }
+    requires table { IsGiven table.now }
     ensures { IfOk result (λ o. IfSome o (λ shown. IsShown table.now.persons table.now.objects table.now.costs.now
         table.now.stride gap is_ended proposal.now.prices.items shown.picks.items shown.solved)) }
 {

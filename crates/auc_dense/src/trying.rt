@@ -3,10 +3,9 @@
 
 ghost use Rattle.std.specs.Prelude.{◌≡◌, ◌≢◌, ◌<◌, ◌≤◌, ◌+◌, ◌^◌, pos, neg_ℤ, ◌+ℤ◌, ◌≤ℤ◌, All, IsTrue, IfOk, IfSome};
 ghost use Rattle.std.specs.Prelude.{length};
-ghost use Rattle.auc_graph.specs.declared.limits.TheConstants.{MOST_COST, MOST_PERSONS};
-ghost use Rattle.auc_dense.specs.Table.{IsTable};
-ghost use Rattle.auc_dense.specs.Tried.{AreBest, AreHeldApart, AreOthersFree, ArePicks, IsBestIn, IsNoneBelow, IsPickIn};
-ghost use Rattle.auc_dense.specs.Tried.{IsPlainPrice};
+ghost use Rattle.auc_graph.specs.declared.limits.TheConstants.{MOST_PERSONS};
+ghost use Rattle.auc_dense.specs.Tried.{AreBest, AreHeldApart, AreOthersFree, ArePicks, IsBestIn, IsGiven};
+ghost use Rattle.auc_dense.specs.Tried.{IsNoneBelow, IsPickIn, IsPlainPrice, IsWhole};
 ghost use Rattle.auc_graph.specs.Price.{IsPrice};
 ghost use Rattle.auc_dense.specs.Tried.{ShowLeast};
 
@@ -82,9 +81,7 @@ fn is_none_below(row: &[i64], gap: i64, prices: &[i64], least: i64) -> bool
 
 /// The pick of an object, where its entry is no gap.
 fn pick_in(row: &[i64], gap: i64, object: u32) -> Option<Pick>
-    ensures entry { IfSome result (IsPickIn gap row.now) }
-    ensures low { IfSome result (λ pick. neg_ℤ MOST_COST ≤ℤ pick.cost) }
-    ensures high { IfSome result (λ pick. pick.cost ≤ℤ MOST_COST) }
+    ensures { IfSome result (IsPickIn gap row.now) }
 {
     if object as usize >= row.len() {
         return None;
@@ -119,8 +116,7 @@ pub(crate) fn picks_in(
     gap: i64,
     choice: &[u32],
 ) -> Result<Option<Vec<Pick>>, AllocError>
-    requires few { table.now.persons ≤ MOST_PERSONS }
-    requires table { IsTable table.now.persons table.now.objects table.now.stride (length table.now.costs.now) }
+    requires table { IsGiven table.now }
     requires choice { length choice.now ≡ table.now.persons }
     ensures { IfOk result (λ o. IfSome o (λ picks. ArePicks table.now.objects table.now.costs.now table.now.stride gap
         table.now.persons picks.items)) }
@@ -144,8 +140,7 @@ pub(crate) fn best_picks(
     choice: &[u32],
     prices: &[i64],
 ) -> Result<Option<Vec<Pick>>, AllocError>
-    requires few { table.now.persons ≤ MOST_PERSONS }
-    requires table { IsTable table.now.persons table.now.objects table.now.stride (length table.now.costs.now) }
+    requires table { IsGiven table.now }
     requires choice { length choice.now ≡ table.now.persons }
     requires len { length prices.now ≡ table.now.objects }
     requires prices { All IsPrice prices.now }
@@ -198,12 +193,8 @@ pub(crate) fn are_others_free(picks: &[Pick], holders: &[u32], prices: &[i64]) -
 /// Whether a proposal has an object for each person, and for each object a price, which is one still where it is
 /// scaled.
 pub(crate) fn is_whole(table: &Table, proposal: &Proposal) -> bool
-    requires { table.now.persons ≤ MOST_PERSONS }
-    ensures choice { IsTrue result → length proposal.now.objects.items ≡ table.now.persons }
-    ensures len { IsTrue result → length proposal.now.prices.items ≡ table.now.objects }
-    ensures plain { IsTrue result
-        → All (IsPlainPrice (pos (table.now.persons + 1))) proposal.now.prices.items }
-    ensures prices { IsTrue result → All IsPrice proposal.now.prices.items }
+    requires { IsGiven table.now }
+    ensures { IsTrue result → IsWhole table.now proposal.now }
 {
     if proposal.objects.len() != table.persons as usize {
         return false;
@@ -221,12 +212,8 @@ pub(crate) fn try_out(
     gap: i64,
     proposal: &Proposal,
 ) -> Result<Option<Vec<Pick>>, AllocError>
-    requires few { table.now.persons ≤ MOST_PERSONS }
-    requires table { IsTable table.now.persons table.now.objects table.now.stride (length table.now.costs.now) }
-    requires choice { length proposal.now.objects.items ≡ table.now.persons }
-    requires len { length proposal.now.prices.items ≡ table.now.objects }
-    requires plain { All (IsPlainPrice (pos (table.now.persons + 1))) proposal.now.prices.items }
-    requires prices { All IsPrice proposal.now.prices.items }
+    requires table { IsGiven table.now }
+    requires whole { IsWhole table.now proposal.now }
     ensures { IfOk result (λ o. IfSome o (λ picks. ShowLeast table.now.persons table.now.objects table.now.costs.now
         table.now.stride gap picks.items proposal.now.prices.items)) }
 {

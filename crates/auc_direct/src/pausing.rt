@@ -45,8 +45,8 @@ impl<W: Watch> Pause for Pausing<'_, W> {
     }
 }
 
-/// Asks a watch at the end of such a search, to which a small table comes before a question is due. Whether the run goes
-/// on; a watch that has said no isn't asked again.
+/// Asks a watch at the end of such a search, to which a small table comes before a question is due. Whether the run
+/// goes on; a watch that has said no isn't asked again.
 pub fn ask_after<W: Watch>(watch: &mut W, persons: u32) -> bool
     ensures yes { result ≡ true → W.has_stopped watch.new ≡ false }
     ensures no { result ≡ false → W.has_stopped watch.new ≡ true }

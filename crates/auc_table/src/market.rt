@@ -148,8 +148,8 @@ impl Market {
         Some(earlier)
     }
 
-    /// A person bids by this eps, then the displaced person, and so on, at most so many times; returns how many bids are
-    /// left.
+    /// A person bids by this eps, then the displaced person, and so on, at most so many times; returns how many bids
+    /// are left.
     pub(crate) fn bid_in_chain<const G: bool>(
         &mut self,
         table: &Table,

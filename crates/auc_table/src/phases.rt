@@ -80,7 +80,8 @@ fn last_eps(table: &Table, spread: i64) -> i64 {
 
 /// Raises the prices of a market with as many objects as persons, after which nobody holds anything, unless the budget
 /// is spent. Eps falls from an eighth of `from`, or of the mean spread of a row, until it isn't worth a phase; returns
-/// it. At the end the spread is taken anew, at the prices of then: what a column costs everybody no longer counts there.
+/// it. At the end the spread is taken anew, at the prices of then: what a column costs everybody no longer counts
+/// there.
 pub(crate) fn raise_prices<P: Pause, const G: bool>(
     table: &Table,
     gap: Gap<G>,

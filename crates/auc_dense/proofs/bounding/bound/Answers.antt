@@ -18,8 +18,8 @@ returns-in-Some-lower_of c =
     let best = simp to_z-of_z at told_best in
     let lower = c.in-Some-lower_of.ensures in
     simp to_z-of_z (record {
-      priced = c.requires.len;
-      fair = c.requires.plain;
+      priced = c.requires.whole.priced;
+      fair = c.requires.whole.fair;
       own = own;
       single = apart c.in-Some.picks.items c.as_slice-holders.result.now (subst (λ (xs : List Pick). AreHeldApart xs c.as_slice-holders.result.now) c.as_slice-2.ensures.value (c.if-not-are_held_apart.ensures refl));
       few = elim c.else-table.branch [

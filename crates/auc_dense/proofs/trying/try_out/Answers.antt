@@ -13,8 +13,8 @@ returns c =
     let told = rw c.in-Some.is at c.in_ok-picks.ensures in
     let best = simp to_z-of_z at told in
     record {
-      priced = c.requires.len;
-      fair = c.requires.plain;
+      priced = c.requires.whole.priced;
+      fair = c.requires.whole.fair;
       best = subst (λ (xs : List ℤ). AreBest c.args.table.now.objects c.args.table.now.costs.now c.args.table.now.stride c.args.gap xs c.args.table.now.persons c.in-Some.picks.items) prices best;
       single = apart c.in-Some.picks.items c.as_slice-holders.result.now (subst (λ (xs : List Pick). AreHeldApart xs c.as_slice-holders.result.now) c.as_slice.ensures.value (c.if-not-are_held_apart.ensures refl));
       free = subst (λ (xs : List Pick). AreOthersFree xs c.args.proposal.now.prices.items) c.as_slice-2.ensures.value

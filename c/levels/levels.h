@@ -1,6 +1,6 @@
 /* A problem at work: what the parts of this folder share. run.c runs it, reading.c reads costs, entries.c puts entries
  * in order, refine.c makes an answer of the costs as they are, ties.c the first one of several, and amounts.c adds up.
- * watching.c asks a watch between searches, and hasty.c has what may be said of a table in no time.
+ * watching.c asks a watch between searches.
  *
  * The library has it for its calls of doubles (floats.c) and for Python (python.c), whose extension is compiled of the
  * same files. It is plain C, and only tested. Proved are the library's calls of whole numbers, by which it solves. */
@@ -277,14 +277,8 @@ enum { SCALE = 2, HAS_TAILS = 1, IS_SMALL = 2, IS_WHOLE = 4, IS_UNSIGNED = 8 };
 sigdorf_watch watch_of(const job *w, int tells);
 /* Takes what a search has written to its watch. */
 void take_watch(job *w, const sigdorf_watch *own);
-/* Whether the watch has ended a search, or would end the next one; and whether it was by its time, so that somebody waits
- * for the best that there is. */
+/* Whether the watch has ended a search, or would end the next one. */
 int is_over(job *w);
-int is_late(const job *w);
-
-/* Of hasty.c: 0, or SIGDORF_MEMORY. Takes a better assignment of a table without gaps, and a better bound, by some passes
- * over it, than what a search has found that was ended. */
-int take_hastily(job *w, sigdorf_found *found);
 
 /* ---- Of run.c */
 

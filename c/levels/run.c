@@ -207,8 +207,6 @@ int run(job *w) {
     if (said != SIGDORF_OPTIMAL && said != SIGDORF_BRACKET) return take_found(w, said, &found);
     status = are_entries(w);
     if (status) return status;
-    if (said == SIGDORF_BRACKET && w->q.takes_gap && is_late(w)) status = take_hastily(w, &found);
-    if (status) return status;
     if (said == SIGDORF_BRACKET)
         status = take_found(w, said, &found);
     else

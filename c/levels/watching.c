@@ -51,11 +51,6 @@ static int has_word(int stop) {
     return poll(&one, 1, 0) > 0 && (one.revents & POLLIN);
 }
 
-int is_late(const job *w) {
-    const sigdorf_watch *watch = w->q.watch;
-    return watch && watch->stopped && watch->until && !(watch->stop >= 0 && has_word(watch->stop));
-}
-
 int is_over(job *w) {
     sigdorf_watch *watch = w->q.watch;
     if (!watch) return 0;

@@ -24,7 +24,7 @@ limited : (p : Problem) (start : List ℤ) (bids : ℕ) (stopped asked : Bool) (
 limited p start bids stopped asked after (Ok solved) h = h.0
 limited p start bids stopped asked after (Err failed) h = h
 
-pub asked_of : (p : Problem) (start : List ℤ) (bids : ℕ) (stopped asked : Bool) (after : Memory) (r : Result Solved Failed) → IfOk r (IsSolvedBy Direct p start bids stopped asked after) → IfOk r (IsAskedSolve asked p)
+pub asked_of : (p : Problem) (start : List ℤ) (bids : ℕ) (stopped asked : Bool) (after : Memory) (r : Result Solved Failed) → IfOk r (IsSolvedBy Direct p start bids stopped asked after) → IfOk r (IsAskedSolve asked)
 asked_of p start bids stopped asked after (Ok solved) h = h.1
 asked_of p start bids stopped asked after (Err failed) h = h
 

@@ -8,7 +8,7 @@ use Rattle.auc_claim.specs.declared.reason.Reason.{Reason}
 use Rattle.auc_claim.specs.declared.cert.CertParts.{CertParts}
 use Rattle.auc_answers.specs.declared.answer.Answer.{Answer}
 use Rattle.auc_answers.specs.Answers.{IsAnswer}
-use Rattle.auc_direct.specs.Endings.{IsAsked, IsFull, IsLimitedFirst, IsLimitedFrom, IsLimitedUnless, IsStopTold}
+use Rattle.auc_direct.specs.Endings.{IsAsked, IsLimitedFirst, IsLimitedFrom, IsLimitedUnless, IsStopTold}
 use Rattle.auc_call.specs.declared.found.Found.{Found}
 use Rattle.auc_call.specs.declared.solved.Solved.{Solved}
 use Rattle.auc_call.specs.declared.solved.Solved.TheVariants.{Optimal, Infeasible, Bracket}
@@ -16,7 +16,7 @@ use Rattle.auc_call.specs.declared.solved.Failed.{Failed}
 use Rattle.auc_call.specs.declared.solved.Failed.TheVariants.{Sizes, Fault, Start, NoMemory}
 use Rattle.auc_call.specs.Codes.{limit_kind, stop_kind}
 use Rattle.auc_call.specs.declared.driver.Driver.TheVariants.{Direct}
-use Rattle.auc_call.specs.Drivers.{IsAnswerBy, IsAskedSolve, IsLimitedSolve, WasAsked}
+use Rattle.auc_call.specs.Drivers.{IsAnswerBy, IsAskedSolve, IsLimitedSolve}
 use Rattle.auc_call.specs.Limited.{IsLimitAt, IsLimitTold, IsLimitedIn, UnlessStopped}
 use Rattle.auc_call.specs.Memory.{Memory}
 use Rattle.auc_call.specs.Running.{IsAnswerWritten, IsWritten}
@@ -33,12 +33,12 @@ unless : (before stopped : Bool) (answer : Answer) (Holds : Type 0) → IsLimite
 unless before stopped answer Holds (inl told) = inl told
 unless before stopped answer Holds (inr holds) = inr holds.1
 
-pub limited_first : {E : Type 0} (p : Problem) (start : List ℤ) (bids : ℕ) (before stopped asked : Bool) (r : Result Answer E) → (length start == 0) ≡ true → IfOk r (λ a. IsLimitedUnless before stopped a (IsLimitedFirst p bids a)) → IfOk r (IsAsked asked p) → IfOk r (IsAnswerBy Direct p start bids stopped asked)
+pub limited_first : {E : Type 0} (p : Problem) (start : List ℤ) (bids : ℕ) (before stopped asked : Bool) (r : Result Answer E) → (length start == 0) ≡ true → IfOk r (λ a. IsLimitedUnless before stopped a (IsLimitedFirst p bids a)) → IfOk r (IsAsked asked) → IfOk r (IsAnswerBy Direct p start bids stopped asked)
 limited_first p [] bids before stopped asked (Ok answer) none h is = (unless before stopped answer (IsLimitedFirst p bids answer) h, is)
 limited_first p [] bids before stopped asked (Err e) none h is = h
 limited_first p (price ∷ prices) bids before stopped asked r none h is = absurd (grind (arith, nat_tests))
 
-pub limited_from : {E : Type 0} (p : Problem) (start : List ℤ) (bids : ℕ) (before stopped asked : Bool) (r : Result Answer E) → start ≢ [] → IfOk r (λ a. IsLimitedUnless before stopped a (IsLimitedFrom p bids start a)) → IfOk r (IsAsked asked p) → IfOk r (IsAnswerBy Direct p start bids stopped asked)
+pub limited_from : {E : Type 0} (p : Problem) (start : List ℤ) (bids : ℕ) (before stopped asked : Bool) (r : Result Answer E) → start ≢ [] → IfOk r (λ a. IsLimitedUnless before stopped a (IsLimitedFrom p bids start a)) → IfOk r (IsAsked asked) → IfOk r (IsAnswerBy Direct p start bids stopped asked)
 limited_from p [] bids before stopped asked r some h is = absurd (some refl)
 limited_from p (price ∷ prices) bids before stopped asked (Ok answer) some h is = (unless before stopped answer (IsLimitedFrom p bids (price ∷ prices) answer) h, is)
 limited_from p (price ∷ prices) bids before stopped asked (Err e) some h is = h
@@ -85,37 +85,27 @@ told_limit p start bids stopped after (Err NoMemory) status old new h s f four =
 
 -- ---- the watch was asked
 
-was_asked : (asked : Bool) (p : Problem) → (asked ≡ false → IsFull p) → WasAsked asked p
-was_asked true p h = inl refl
-was_asked false p h = inr (h refl)
-
-full_of : (asked : Bool) (p : Problem) (cert : CertParts) → IsAsked asked p (Answer.Optimal cert) → asked ≡ false → IsFull p
-full_of asked p cert h e = subst (λ (b : Bool). IsAsked b p (Answer.Optimal cert)) e h
-
-full_of_bracket : (asked : Bool) (p : Problem) (cert : CertParts) → IsAsked asked p (Answer.Bracket cert) → asked ≡ false → IsFull p
-full_of_bracket asked p cert h e = subst (λ (b : Bool). IsAsked b p (Answer.Bracket cert)) e h
-
-pub asked_solve : (asked : Bool) (p : Problem) (answer : Answer) (after : Memory) (solved : Solved) → IsAnswer p answer → IsAsked asked p answer → IsAnswerWritten p answer after solved → IsAskedSolve asked p solved
+pub asked_solve : (asked : Bool) (p : Problem) (answer : Answer) (after : Memory) (solved : Solved) → IsAnswer p answer → IsAsked asked answer → IsAnswerWritten p answer after solved → IsAskedSolve asked solved
 asked_solve asked p answer after (Infeasible persons objects) is h written = tt
-asked_solve asked p (Answer.Optimal cert) after (Optimal cost) is h written = was_asked asked p (full_of asked p cert h)
-asked_solve asked p (Answer.Optimal cert) after (Bracket reason lower cost) is h written = was_asked asked p (full_of asked p cert h)
-asked_solve asked p (Answer.Bracket cert) after (Optimal cost) is h written = was_asked asked p (full_of_bracket asked p cert h)
-asked_solve asked p (Answer.Bracket cert) after (Bracket reason lower cost) is h written = was_asked asked p (full_of_bracket asked p cert h)
+asked_solve asked p (Answer.Optimal cert) after (Optimal cost) is h written = h
+asked_solve asked p (Answer.Optimal cert) after (Bracket reason lower cost) is h written = h
+asked_solve asked p (Answer.Bracket cert) after (Optimal cost) is h written = h
+asked_solve asked p (Answer.Bracket cert) after (Bracket reason lower cost) is h written = h
 asked_solve asked p (Answer.Infeasible cert) after (Optimal cost) is h written = absurd (subst (λ (x : CertParts). IsWritten p x after (Optimal cost)) is.is written)
 asked_solve asked p (Answer.Infeasible cert) after (Bracket reason lower cost) is h written = absurd (subst (λ (x : CertParts). IsWritten p x after (Bracket reason lower cost)) is.is written)
 asked_solve asked p (Answer.Broken guard) after (Optimal cost) is h written = absurd is
 asked_solve asked p (Answer.Broken guard) after (Bracket reason lower cost) is h written = absurd is
 
-pub told_asked : (p : Problem) (asked : Bool) (r : Result Solved Failed) (status : ℤ) → IfOk r (IsAskedSolve asked p) → status ≡ solve_status r → (status ≡ pos 0) ⊎ (status ≡ pos 4) → WasAsked asked p
-told_asked p asked (Ok (Optimal cost)) status h s found = h
-told_asked p asked (Ok (Bracket reason lower cost)) status h s found = h
-told_asked p asked (Ok (Infeasible persons objects)) status h s (inl zero) = absurd (omega (arith, apart 3 0 (sym s ∙ zero)))
-told_asked p asked (Ok (Infeasible persons objects)) status h s (inr four) = absurd (omega (arith, apart 3 4 (sym s ∙ four)))
-told_asked p asked (Err Sizes) status h s (inl zero) = absurd (omega (arith, apart 2 0 (sym s ∙ zero)))
-told_asked p asked (Err Sizes) status h s (inr four) = absurd (omega (arith, apart 2 4 (sym s ∙ four)))
-told_asked p asked (Err (Fault fault)) status h s (inl zero) = absurd (omega (arith, apart 5 0 (sym s ∙ zero)))
-told_asked p asked (Err (Fault fault)) status h s (inr four) = absurd (omega (arith, apart 5 4 (sym s ∙ four)))
-told_asked p asked (Err (Start fault)) status h s (inl zero) = absurd (omega (arith, apart 7 0 (sym s ∙ zero)))
-told_asked p asked (Err (Start fault)) status h s (inr four) = absurd (omega (arith, apart 7 4 (sym s ∙ four)))
-told_asked p asked (Err NoMemory) status h s (inl zero) = absurd (omega (arith, apart 6 0 (sym s ∙ zero)))
-told_asked p asked (Err NoMemory) status h s (inr four) = absurd (omega (arith, apart 6 4 (sym s ∙ four)))
+pub told_asked : (asked : Bool) (r : Result Solved Failed) (status : ℤ) → IfOk r (IsAskedSolve asked) → status ≡ solve_status r → (status ≡ pos 0) ⊎ (status ≡ pos 4) → asked ≡ true
+told_asked asked (Ok (Optimal cost)) status h s found = h
+told_asked asked (Ok (Bracket reason lower cost)) status h s found = h
+told_asked asked (Ok (Infeasible persons objects)) status h s (inl zero) = absurd (omega (arith, apart 3 0 (sym s ∙ zero)))
+told_asked asked (Ok (Infeasible persons objects)) status h s (inr four) = absurd (omega (arith, apart 3 4 (sym s ∙ four)))
+told_asked asked (Err Sizes) status h s (inl zero) = absurd (omega (arith, apart 2 0 (sym s ∙ zero)))
+told_asked asked (Err Sizes) status h s (inr four) = absurd (omega (arith, apart 2 4 (sym s ∙ four)))
+told_asked asked (Err (Fault fault)) status h s (inl zero) = absurd (omega (arith, apart 5 0 (sym s ∙ zero)))
+told_asked asked (Err (Fault fault)) status h s (inr four) = absurd (omega (arith, apart 5 4 (sym s ∙ four)))
+told_asked asked (Err (Start fault)) status h s (inl zero) = absurd (omega (arith, apart 7 0 (sym s ∙ zero)))
+told_asked asked (Err (Start fault)) status h s (inr four) = absurd (omega (arith, apart 7 4 (sym s ∙ four)))
+told_asked asked (Err NoMemory) status h s (inl zero) = absurd (omega (arith, apart 6 0 (sym s ∙ zero)))
+told_asked asked (Err NoMemory) status h s (inr four) = absurd (omega (arith, apart 6 4 (sym s ∙ four)))

@@ -1,10 +1,10 @@
 -- What is said of a run by each solver: directly, that only a limit leaves a bracket, or a watch that has said no, and
 -- that the watch was asked; by messages, which run it is.
-use Rattle.std.specs.Prelude.{Bool, true, ◌≡◌, ◌⊎◌, ◌≢◌, ℕ, ℤ, pos, List}
+use Rattle.std.specs.Prelude.{Bool, true, ◌≡◌, ◌≢◌, ℕ, ℤ, pos, List}
 use Rattle.auc_graph.specs.Problem.{Problem}
 use Rattle.auc_claim.specs.declared.reason.Reason.{Reason}
 use Rattle.auc_answers.specs.declared.answer.Answer.{Answer}
-use Rattle.auc_direct.specs.Endings.{IsAsked, IsFull, IsStopTold}
+use Rattle.auc_direct.specs.Endings.{IsAsked, IsStopTold}
 use Rattle.auc_world.specs.Chain.{IsOfRun}
 use Rattle.auc_call.specs.Codes.{stop_kind}
 use Rattle.auc_call.specs.declared.driver.Driver.{Driver}
@@ -19,7 +19,7 @@ use Rattle.auc_call.specs.Running.{IsOfRunFrom, IsRunTold, limits_of, start_in}
 -- by its answer, where the watch has stopped or not, and was asked or not
 abbrev pub IsAnswerBy : Driver → Problem → List ℤ → ℕ → Bool → Bool → Answer → Type 0
 IsAnswerBy Direct p start bids stopped asked answer =
-    UnlessStopped stopped (IsStopTold answer) (IsLimitedIn p start bids answer) × IsAsked asked p answer
+    UnlessStopped stopped (IsStopTold answer) (IsLimitedIn p start bids answer) × IsAsked asked answer
 IsAnswerBy Messages p start bids stopped asked answer = IsOfRun p (limits_of bids) (start_in start) answer
 
 abbrev pub IsLimitedSolve : Problem → List ℤ → ℕ → Bool → Memory → Solved → Type 0
@@ -28,20 +28,16 @@ IsLimitedSolve p start bids stopped after (Infeasible persons objects) = Unit {0
 IsLimitedSolve p start bids stopped after (Bracket reason lower cost) =
     UnlessStopped stopped (reason ≡ Reason.Bids) (IsLimitAt p start bids after.choice after.prices reason lower cost)
 
--- the watch was asked, unless the problem is a full table, over which a search comes first
-abbrev pub WasAsked : Bool → Problem → Type 0
-WasAsked asked p = (asked ≡ true) ⊎ IsFull p
-
--- so it was where an assignment was found
-abbrev pub IsAskedSolve : Bool → Problem → Solved → Type 0
-IsAskedSolve asked p (Optimal cost) = WasAsked asked p
-IsAskedSolve asked p (Infeasible persons objects) = Unit {0}
-IsAskedSolve asked p (Bracket reason lower cost) = WasAsked asked p
+-- the watch was asked where an assignment was found
+abbrev pub IsAskedSolve : Bool → Solved → Type 0
+IsAskedSolve asked (Optimal cost) = asked ≡ true
+IsAskedSolve asked (Infeasible persons objects) = Unit {0}
+IsAskedSolve asked (Bracket reason lower cost) = asked ≡ true
 
 -- by what was written
 abbrev pub IsSolvedBy : Driver → Problem → List ℤ → ℕ → Bool → Bool → Memory → Solved → Type 0
 IsSolvedBy Direct p start bids stopped asked after solved =
-    IsLimitedSolve p start bids stopped after solved × IsAskedSolve asked p solved
+    IsLimitedSolve p start bids stopped after solved × IsAskedSolve asked solved
 IsSolvedBy Messages p start bids stopped asked after solved = IsOfRunFrom p start bids after solved
 
 -- by what is told

@@ -1,9 +1,8 @@
 //! The calls. What each owes its caller is a record of one fact for each status (`specs/Told`).
 
-ghost use Rattle.std.specs.Prelude.{◌≡◌, ◌≢◌, ◌⊎◌, pos};
+ghost use Rattle.std.specs.Prelude.{◌≡◌, ◌≢◌, ◌⊎◌, pos, true};
 ghost use Rattle.auc_call.specs.Codes.{stop_kind};
 ghost use Rattle.auc_call.specs.Given.{listed_problem};
-ghost use Rattle.auc_call.specs.Drivers.{WasAsked};
 ghost use Rattle.auc_call.specs.Memory.{memory};
 ghost use Rattle.auc_call.specs.Start.{start_fault, start_fault_by_messages};
 ghost use Rattle.auc_call.specs.Limited.{IsLimitTold, UnlessStopped};
@@ -34,7 +33,7 @@ use std::alloc::Global;
 /// `run.watch` is asked before each phase and between bids, as [`auc_direct::solve_direct_watched`] says, and not
 /// before the arcs are copied. After its no the status is [`BRACKET`](crate::BRACKET), with the kind of a limit on
 /// bids, or that there is no assignment. Without a no a bracket is left only by a limit: clause `limit`. It is asked
-/// once at least, but for a full table or where there is no assignment: clause `asked`.
+/// once at least, but for where there is no assignment: clause `asked`.
 pub fn solve_call<W: Watch>(
     alloc: Global,
     given: &GivenArcs,
@@ -52,8 +51,7 @@ pub fn solve_call<W: Watch>(
         → UnlessStopped (W.has_stopped run.new.watch) (found.new.kind ≡ stop_kind)
         (IsLimitTold (listed_problem given.now) run.old.start.now run.old.bids
         choice.new prices.new found.new.kind found.new.lower found.new.cost) }
-    ensures asked { (result ≡ pos 0) ⊎ (result ≡ pos 4)
-        → WasAsked (W.was_asked run.new.watch) (listed_problem given.now) }
+    ensures asked { (result ≡ pos 0) ⊎ (result ≡ pos 4) → W.was_asked run.new.watch ≡ true }
 {
     let solved = solve_into(
         alloc,

@@ -21,7 +21,7 @@ mod start;
 mod status;
 mod telling;
 
-pub use auc_direct::{Onward, Pausing, Progress, Watch};
+pub use auc_direct::{Onward, Pausing, Progress, Watch, ask_after};
 pub use calls::{check_call, check_hall_call, solve_by_messages_call, solve_call};
 pub use driver::Driver;
 pub use found::Found;

@@ -1,6 +1,8 @@
 mod TableLaws
 mod TriedLaws
 mod ShownLaws
+mod BracketLaws
+mod QuickLaws
 mod EntryLaws
 mod FaultLaws
 mod NamingLaws

@@ -1,12 +1,12 @@
 -- What a proposal for a table shows, entry by entry.
-use Rattle.std.proofs.Common.{◌≡◌, ◌≢◌, ℕ, ◌+◌, ◌<◌, inl, inr, List, [], ◌∷◌, ◌++◌, length, get_or, sym, ap, subst, ◌∙◌, arith, length-append}
+use Rattle.std.proofs.Common.{◌≡◌, ◌≢◌, ℕ, ◌+◌, inl, inr, List, [], ◌∷◌, ◌++◌, length, get_or, sym, ap, subst, ◌∙◌, arith, length-append}
 use Rattle.std.specs.Prelude.{ℤ, pos, ◌≤ℤ◌}
 use Rattle.std.proofs.lemmas.Bool.{cases_lt}
 use Rattle.std.proofs.lemmas.List.{get_or_append_left}
 use Rattle.std.proofs.Math.Seq.{get_or-append_seam}
 use Rattle.auc_claim.specs.declared.lists.Pick.{Pick}
 use Rattle.auc_dense.specs.Table.{row_of}
-use Rattle.auc_dense.specs.Tried.{AreBest, AreHeldApart, IsBestIn, IsNoneBelow, no_pick, pick_at, worth_at}
+use Rattle.auc_dense.specs.Tried.{AreApart, AreBest, AreHeldApart, ArePicks, HoldsOfEach, IsNoneBelow, no_pick, pick_at, worth_at}
 
 -- one more entry of a row that isn't worth less
 pub none_more : (gap : ℤ) (row prices : List ℤ) (least : ℤ) (place : ℕ) → IsNoneBelow gap row prices least place → (get_or row place (pos 0) ≢ gap → least ≤ℤ worth_at row prices place) → IsNoneBelow gap row prices least (place + 1)
@@ -15,24 +15,28 @@ none_more gap row prices least place before here object lt own = elim (cases_lt 
   | inr not_below ↦ (let e : place ≡ object = omega (arith, lt, not_below) in subst (λ (k : ℕ). get_or row k (pos 0) ≢ gap → least ≤ℤ worth_at row prices k) e here own)
 ]
 
--- one more person whose pick is the best of his row
-pub best_more : (objects : ℕ) (costs : List ℤ) (stride : ℕ) (gap : ℤ) (prices : List ℤ) (person : ℕ) (picks : List Pick) (pick : Pick) → AreBest objects costs stride gap prices person picks → IsBestIn gap (row_of objects costs stride person) prices pick
-    → AreBest objects costs stride gap prices (person + 1) (picks ++ pick ∷ [])
-best_more objects costs stride gap prices person picks pick before here = record {
+-- one more person of whose row and pick it holds
+pub each_more : (Holds : List ℤ → Pick → Type 0) (objects : ℕ) (costs : List ℤ) (stride person : ℕ) (picks : List Pick) (pick : Pick) → HoldsOfEach objects costs stride person picks Holds → Holds (row_of objects costs stride person) pick
+    → HoldsOfEach objects costs stride (person + 1) (picks ++ pick ∷ []) Holds
+each_more Holds objects costs stride person picks pick before here = record {
   many = let len = length-append picks (pick ∷ []) in let many = before.many in omega (arith, len, many);
   each = λ i lt. elim (cases_lt i person) [
     | inl below ↦ (let many = before.many in
-        subst (λ (p : Pick). IsBestIn gap (row_of objects costs stride i) prices p) (sym (get_or_append_left picks (pick ∷ []) no_pick i (omega (arith, below, many)))) (before.each i below))
+        subst (λ (p : Pick). Holds (row_of objects costs stride i) p) (sym (get_or_append_left picks (pick ∷ []) no_pick i (omega (arith, below, many)))) (before.each i below))
     | inr not_below ↦ (let many = before.many in
         let e : length picks ≡ i = omega (arith, lt, not_below, many) in
         let f : person ≡ i = omega (arith, lt, not_below) in
         let at : pick_at (picks ++ pick ∷ []) i ≡ pick = ap (λ (k : ℕ). pick_at (picks ++ pick ∷ []) k) (sym e) ∙ get_or-append_seam picks pick [] no_pick in
-        subst (λ (p : Pick). IsBestIn gap (row_of objects costs stride i) prices p) (sym at) (subst (λ (k : ℕ). IsBestIn gap (row_of objects costs stride k) prices pick) f here))
+        subst (λ (p : Pick). Holds (row_of objects costs stride i) p) (sym at) (subst (λ (k : ℕ). Holds (row_of objects costs stride k) pick) f here))
   ];
 }
 
+-- the best picks are picks
+pub best_are_picks : (objects : ℕ) (costs : List ℤ) (stride : ℕ) (gap : ℤ) (prices : List ℤ) (persons : ℕ) (picks : List Pick) → AreBest objects costs stride gap prices persons picks → ArePicks objects costs stride gap persons picks
+best_are_picks objects costs stride gap prices persons picks best = record { many = best.many; each = λ k lt. (best.each k lt).entry }
+
 -- who holds an object is one person
-pub apart : (picks : List Pick) (holders : List ℕ) → AreHeldApart picks holders → (one other : ℕ) → one < other → other < length picks → (pick_at picks one).object ≢ (pick_at picks other).object
+pub apart : (picks : List Pick) (holders : List ℕ) → AreHeldApart picks holders → AreApart picks
 apart picks holders held one other lt inside same =
     let first = held one (omega (arith, lt, inside)) in
     let second = held other inside in

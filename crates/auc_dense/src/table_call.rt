@@ -1,6 +1,6 @@
 //! The call over a table.
 
-ghost use Rattle.std.specs.Prelude.{◌≡◌, length, pos};
+ghost use Rattle.std.specs.Prelude.{◌≡◌, ◌⊎◌, length, pos, true};
 ghost use Rattle.auc_call.specs.Codes.{stop_kind};
 ghost use Rattle.auc_call.specs.Memory.{memory};
 ghost use Rattle.auc_call.specs.Start.{start_fault};
@@ -25,14 +25,16 @@ use std::alloc::Global;
 /// A search over the table comes first ([`auc_table::propose`]), in which to look over a row counts as a bid, and its
 /// answer is taken where one pass over the table shows that it is least. With as many objects as persons it starts from
 /// `start`, where these prices give a greater lower bound than prices of 0. That takes O(persons^2 * objects) time at
-/// most, and at most 44 bytes of memory an object and 20 a person. After more bids, and where there is no assignment,
+/// most, and at most 52 bytes of memory an object and 40 a person. After more bids, and where there is no assignment,
 /// the arcs are written out and solved: that takes the time and memory of [`auc_call::solve_call`], but for its copy of
 /// the arcs, which is the only one here: 16 bytes for each entry that is no gap.
 ///
 /// `run.watch` is asked within the search after about as many entries as the direct solver scans between two questions
-/// ([`auc_call::Pausing`]), and as [`auc_call::solve_call`] says while the arcs are solved; not while the entries are
-/// counted, a proposal is tried or the arcs are written out. After a no within the search the arcs are written out all
-/// the same, and the status is [`auc_call::BRACKET`], with the kind of a limit on bids, or that there is no assignment.
+/// ([`auc_call::Pausing`]), at its end, and as [`auc_call::solve_call`] says while the arcs are solved; not while the
+/// entries are counted, a proposal is tried or the arcs are written out. So it is asked once at least, but for where
+/// there is no assignment: clause `asked`. After a no within the search the status is [`auc_call::BRACKET`], with the
+/// kind of a limit on bids, and the assignment and the bound are those to which the search had come, filled up by a few
+/// passes over the table. Where gaps are in the way the arcs are written out all the same.
 pub fn solve_table_call<W: Watch>(
     alloc: Global,
     given: &GivenTable,
@@ -51,6 +53,7 @@ pub fn solve_table_call<W: Watch>(
         (ByObjects (tabled_problem given.now).arcs choice.new
         (λ places. IsLimitTold (tabled_problem given.now) run.old.start.now run.old.bids
         places prices.new found.new.kind found.new.lower found.new.cost)) }
+    ensures asked { (result ≡ pos 0) ⊎ (result ≡ pos 4) → W.was_asked run.new.watch ≡ true }
 {
     let solved = solve_table_into(alloc, given, run, choice, prices, hall_objects);
     tell_solved(solved, found)

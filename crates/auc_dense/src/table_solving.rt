@@ -3,6 +3,7 @@
 ghost use Rattle.std.specs.Prelude.{◌≡◌, None, length, IfOk, IfErr};
 ghost use Rattle.auc_graph.specs.InMemory.{problem_fault};
 ghost use Rattle.auc_graph.specs.Problem.{IsProblem};
+ghost use Rattle.auc_call.specs.Drivers.{IsAskedSolve};
 ghost use Rattle.auc_call.specs.Memory.{AreSizes, memory};
 ghost use Rattle.auc_dense.specs.Given.{IsGivenTable, tabled_problem};
 ghost use Rattle.auc_dense.specs.TableSolving.{IsRefused, SolvesArcs, SolvesTable};
@@ -70,8 +71,9 @@ fn solve_arcs<W: Watch>(
     set: &mut [u32],
 ) -> Result<Solved, Failed>
     requires { AreSizes problem.now (memory choice.old prices.old set.old) }
-    ensures { SolvesArcs problem.now run.old.start.now run.old.bids (W.has_stopped run.new.watch)
+    ensures solves { SolvesArcs problem.now run.old.start.now run.old.bids (W.has_stopped run.new.watch)
         (memory choice.old prices.old set.old) (memory choice.new prices.new set.new) result }
+    ensures asked { IfOk result (IsAskedSolve (W.was_asked run.new.watch)) }
 {
     let solved = solve_problem(alloc, Driver::Direct, problem, run, choice, prices, set)?;
     name_objects(problem.arcs(), solved, choice);
@@ -88,9 +90,10 @@ pub(crate) fn solve_table_into<W: Watch>(
     prices: &mut [i64],
     set: &mut [u32],
 ) -> Result<Solved, Failed>
-    ensures { SolvesTable (tabled_problem given.now) given.now.stride (length given.now.costs.now)
+    ensures solves { SolvesTable (tabled_problem given.now) given.now.stride (length given.now.costs.now)
         run.old.start.now run.old.bids (W.has_stopped run.new.watch) (memory choice.old prices.old set.old)
         (memory choice.new prices.new set.new) result }
+    ensures asked { IfOk result (IsAskedSolve (W.was_asked run.new.watch)) }
 {
     let GivenTable {
         persons,
@@ -115,8 +118,8 @@ pub(crate) fn solve_table_into<W: Watch>(
         costs,
     };
     let found = solve_quickly(alloc, &table, gap, count, run, choice, prices)?;
-    if let Some(cost) = found {
-        return Ok(Solved::Optimal { cost });
+    if let Some(solved) = found {
+        return Ok(solved);
     }
     let problem = problem_of_table(alloc, given, count)?;
     solve_arcs(alloc, &problem, run, choice, prices, set)

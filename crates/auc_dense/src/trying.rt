@@ -4,15 +4,15 @@
 ghost use Rattle.std.specs.Prelude.{◌≡◌, ◌≢◌, ◌<◌, ◌≤◌, ◌+◌, ◌^◌, pos, neg_ℤ, ◌+ℤ◌, ◌≤ℤ◌, All, IsTrue, IfOk, IfSome};
 ghost use Rattle.std.specs.Prelude.{length};
 ghost use Rattle.auc_graph.specs.declared.limits.TheConstants.{MOST_PERSONS};
-ghost use Rattle.auc_dense.specs.Table.{IsTable};
-ghost use Rattle.auc_dense.specs.Tried.{AreBest, AreHeldApart, AreOthersFree, IsBestIn, IsNoneBelow, IsPlainPrice};
+ghost use Rattle.auc_dense.specs.Tried.{AreBest, AreHeldApart, AreOthersFree, ArePicks, IsBestIn, IsGiven};
+ghost use Rattle.auc_dense.specs.Tried.{IsNoneBelow, IsPickIn, IsPlainPrice, IsWhole};
 ghost use Rattle.auc_graph.specs.Price.{IsPrice};
 ghost use Rattle.auc_dense.specs.Tried.{ShowLeast};
 
 use crate::table::row_of;
 use auc_claim::Pick;
 use auc_graph::{MOST_COST, MOST_PRICE};
-use auc_table::Proposal;
+use auc_table::{Proposal, Table};
 use std::alloc::{AllocError, Global};
 
 /// By what costs are multiplied: one more than the persons.
@@ -79,11 +79,9 @@ fn is_none_below(row: &[i64], gap: i64, prices: &[i64], least: i64) -> bool
     is_none
 }
 
-/// The pick of an object, where its entry is no gap, and none of the row is better.
-fn best_pick(row: &[i64], gap: i64, prices: &[i64], object: u32) -> Option<Pick>
-    requires len { length prices.now ≡ length row.now }
-    requires prices { All IsPrice prices.now }
-    ensures { IfSome result (IsBestIn gap row.now prices.now) }
+/// The pick of an object, where its entry is no gap.
+fn pick_in(row: &[i64], gap: i64, object: u32) -> Option<Pick>
+    ensures { IfSome result (IsPickIn gap row.now) }
 {
     if object as usize >= row.len() {
         return None;
@@ -92,33 +90,66 @@ fn best_pick(row: &[i64], gap: i64, prices: &[i64], object: u32) -> Option<Pick>
     if cost == gap || cost < -MOST_COST || MOST_COST < cost {
         return None;
     }
-    let least = cost + prices[object as usize];
-    if !is_none_below(row, gap, prices, least) {
-        return None;
-    }
     Some(Pick { cost, object })
 }
 
-/// The picks of these objects, where each is the best of its row.
-fn best_picks(
+/// The pick of an object, where its entry is no gap, and none of the row is better.
+fn best_pick(row: &[i64], gap: i64, prices: &[i64], object: u32) -> Option<Pick>
+    requires len { length prices.now ≡ length row.now }
+    requires prices { All IsPrice prices.now }
+    ensures { IfSome result (IsBestIn gap row.now prices.now) }
+{
+    let Some(pick) = pick_in(row, gap, object) else {
+        return None;
+    };
+    let least = pick.cost + prices[pick.object as usize];
+    if !is_none_below(row, gap, prices, least) {
+        return None;
+    }
+    Some(pick)
+}
+
+/// The picks of these objects, where each is an entry of its row that is no gap.
+pub(crate) fn picks_in(
     alloc: Global,
-    objects: u32,
-    costs: &[i64],
-    stride: usize,
+    table: &Table,
+    gap: i64,
+    choice: &[u32],
+) -> Result<Option<Vec<Pick>>, AllocError>
+    requires table { IsGiven table.now }
+    requires choice { length choice.now ≡ table.now.persons }
+    ensures { IfOk result (λ o. IfSome o (λ picks. ArePicks table.now.objects table.now.costs.now table.now.stride gap
+        table.now.persons picks.items)) }
+{
+    let mut picks = Vec::with_capacity(alloc, choice.len())?;
+    for person in 0..choice.len() {
+        let row = row_of(table.costs, table.stride, table.objects, person as u32);
+        match pick_in(row, gap, choice[person]) {
+            Some(pick) => picks.push(pick)?,
+            None => return Ok(None),
+        }
+    }
+    Ok(Some(picks))
+}
+
+/// The picks of these objects, where each is the best of its row.
+pub(crate) fn best_picks(
+    alloc: Global,
+    table: &Table,
     gap: i64,
     choice: &[u32],
     prices: &[i64],
 ) -> Result<Option<Vec<Pick>>, AllocError>
-    requires few { length choice.now ≤ MOST_PERSONS }
-    requires table { IsTable (length choice.now) objects stride (length costs.now) }
-    requires len { length prices.now ≡ objects }
+    requires table { IsGiven table.now }
+    requires choice { length choice.now ≡ table.now.persons }
+    requires len { length prices.now ≡ table.now.objects }
     requires prices { All IsPrice prices.now }
-    ensures { IfOk result (λ o. IfSome o (λ picks. AreBest objects costs.now stride gap prices.now
-        (length choice.now) picks.items)) }
+    ensures { IfOk result (λ o. IfSome o (λ picks. AreBest table.now.objects table.now.costs.now table.now.stride gap
+        prices.now table.now.persons picks.items)) }
 {
     let mut picks = Vec::with_capacity(alloc, choice.len())?;
     for person in 0..choice.len() {
-        let row = row_of(costs, stride, objects, person as u32);
+        let row = row_of(table.costs, table.stride, table.objects, person as u32);
         match best_pick(row, gap, prices, choice[person]) {
             Some(pick) => picks.push(pick)?,
             None => return Ok(None),
@@ -128,7 +159,7 @@ fn best_picks(
 }
 
 /// Whether each object that is picked is held by who picks it.
-fn are_held_apart(picks: &[Pick], holders: &[u32]) -> bool
+pub(crate) fn are_held_apart(picks: &[Pick], holders: &[u32]) -> bool
     requires { length picks.now ≤ MOST_PERSONS }
     ensures { IsTrue result → AreHeldApart picks.now holders.now }
 {
@@ -142,7 +173,7 @@ fn are_held_apart(picks: &[Pick], holders: &[u32]) -> bool
 }
 
 /// Whether each object that has a price is picked, by who holds it.
-fn are_others_free(picks: &[Pick], holders: &[u32], prices: &[i64]) -> bool
+pub(crate) fn are_others_free(picks: &[Pick], holders: &[u32], prices: &[i64]) -> bool
     ensures { IsTrue result → AreOthersFree picks.now prices.now }
 {
     for object in 0..prices.len() {
@@ -159,31 +190,37 @@ fn are_others_free(picks: &[Pick], holders: &[u32], prices: &[i64]) -> bool
     true
 }
 
-/// The picks of a proposal, where with its prices they show a least assignment of the table.
+/// Whether a proposal has an object for each person, and for each object a price, which is one still where it is
+/// scaled.
+pub(crate) fn is_whole(table: &Table, proposal: &Proposal) -> bool
+    requires { IsGiven table.now }
+    ensures { IsTrue result → IsWhole table.now proposal.now }
+{
+    if proposal.objects.len() != table.persons as usize {
+        return false;
+    }
+    if proposal.prices.len() != table.objects as usize {
+        return false;
+    }
+    are_plain(scale_of(table.persons), proposal.prices.as_slice())
+}
+
+/// The picks of a whole proposal, where with its prices they show a least assignment of the table.
 pub(crate) fn try_out(
     alloc: Global,
-    persons: u32,
-    objects: u32,
-    costs: &[i64],
-    stride: usize,
+    table: &Table,
     gap: i64,
     proposal: &Proposal,
 ) -> Result<Option<Vec<Pick>>, AllocError>
-    requires few { persons ≤ MOST_PERSONS }
-    requires table { IsTable persons objects stride (length costs.now) }
-    ensures { IfOk result (λ o. IfSome o (λ picks. ShowLeast persons objects costs.now stride gap picks.items
-        proposal.now.prices.items)) }
+    requires table { IsGiven table.now }
+    requires whole { IsWhole table.now proposal.now }
+    ensures { IfOk result (λ o. IfSome o (λ picks. ShowLeast table.now.persons table.now.objects table.now.costs.now
+        table.now.stride gap picks.items proposal.now.prices.items)) }
 {
     let prices = proposal.prices.as_slice();
     let holders = proposal.holders.as_slice();
-    if proposal.objects.len() != persons as usize || prices.len() != objects as usize {
-        return Ok(None);
-    }
-    if !are_plain(scale_of(persons), prices) {
-        return Ok(None);
-    }
     let choice = proposal.objects.as_slice();
-    let Some(picks) = best_picks(alloc, objects, costs, stride, gap, choice, prices)? else {
+    let Some(picks) = best_picks(alloc, table, gap, choice, prices)? else {
         return Ok(None);
     };
     if !are_held_apart(picks.as_slice(), holders) {

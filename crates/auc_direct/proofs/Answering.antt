@@ -31,7 +31,6 @@ use Rattle.auc_answers.proofs.BracketLaws.{bound_fits, holders_price_few}
 use Rattle.auc_rows.specs.declared.arc.ShortArc.{ShortArc}
 use Rattle.auc_rows.specs.Rows.{AreRowsOf, AreSameRows, EachHasArc, FlatTable, IsFlatTable, flat_row_of, short, short_row}
 use Rattle.auc_market.specs.declared.ending.Ending.{Ending}
-use Rattle.auc_direct.specs.Adopted.{IsFullTable}
 use Rattle.auc_direct.specs.Endings.{IsAsked, AreAdopted, AreFirst, AreOfRun, HasReason, IsBracketFor, IsClaimOfFirst, IsClaimOfRun, IsLimited, IsLimitedBy, IsLimitedFirst, IsLimitedFrom, IsLimitedUnless, IsOfFirstPhases, IsOfPhases, IsOfPhasesFrom, IsWideProblem}
 use Rattle.auc_direct.specs.Told.{IsTold}
 use Rattle.auc_market.specs.Endings.{IsLeft, IsRunStopped, IsStart, IsToldOr}
@@ -249,20 +248,17 @@ never_told P r h = of_answers (λ a. IsLimitedUnless false false a (P a)) P r (n
 
 -- ---- the watch was asked
 
-pub is_asked : (asked : Bool) (p : Problem) (r : FlatTable) → AreRowsOf p r → (asked ≡ true) ⊎ IsFullTable r → (answer : Answer) → IsAsked asked p answer
-is_asked true p r rows h answer = tt
-is_asked false p r rows (inl e) answer = absurd (false≢true e)
-is_asked false p r rows (inr full) (Answer.Optimal cert) = (r, rows, full)
-is_asked false p r rows (inr full) (Answer.Infeasible cert) = tt
-is_asked false p r rows (inr full) (Answer.Bracket cert) = (r, rows, full)
-is_asked false p r rows (inr full) (Answer.Broken guard) = (r, rows, full)
+pub is_asked : (asked : Bool) → asked ≡ true → (answer : Answer) → IsAsked asked answer
+is_asked asked h (Answer.Optimal cert) = h
+is_asked asked h (Answer.Infeasible cert) = tt
+is_asked asked h (Answer.Bracket cert) = h
+is_asked asked h (Answer.Broken guard) = h
 
-pub none_asked : (asked : Bool) (p : Problem) (answer : Answer) → IsInfeasibleAnswer p answer → IsAsked asked p answer
-none_asked true p answer h = tt
-none_asked false p (Answer.Optimal cert) h = absurd h
-none_asked false p (Answer.Infeasible cert) h = tt
-none_asked false p (Answer.Bracket cert) h = absurd h
-none_asked false p (Answer.Broken guard) h = absurd h
+pub none_asked : (asked : Bool) (p : Problem) (answer : Answer) → IsInfeasibleAnswer p answer → IsAsked asked answer
+none_asked asked p (Answer.Optimal cert) h = absurd h
+none_asked asked p (Answer.Infeasible cert) h = tt
+none_asked asked p (Answer.Bracket cert) h = absurd h
+none_asked asked p (Answer.Broken guard) h = absurd h
 
 first_claim : (p : Problem) (bids : ℕ) (begun : List ℤ) (cert : CertParts) → AreFirst p begun → IsClaimOfRun p bids begun cert → IsClaimOfFirst p bids cert
 first_claim p bids begun (CertParts.Optimal cost picks prices) first (inl run) = inl (begun, first, run)

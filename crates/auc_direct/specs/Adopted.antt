@@ -22,8 +22,9 @@ pub record AreFound (r : FlatTable) (found : Holdings) : Type 0 where
   pub have : HaveObjects (length r.rows) found.owns.items
   pub full : IsFullTable r
 
--- what such a search under a watch has come to: after a no nothing, else the watch's flag is as before
+-- what such a search under a watch has come to: after a no nothing, else the watch's flag is as before; where an
+-- assignment was found, the watch was asked
 abbrev pub IsSearched : FlatTable → Bool → Bool → Bool → Searched → Type 0
-IsSearched r before after asked (Searched.Adopted found) = AreFound r found × (after ≡ before)
+IsSearched r before after asked (Searched.Adopted found) = AreFound r found × (after ≡ before) × (asked ≡ true)
 IsSearched r before after asked Searched.Ended = (after ≡ true) × (asked ≡ true)
 IsSearched r before after asked Searched.Nothing = after ≡ before

@@ -1,5 +1,5 @@
 -- How a run of the direct solver ends, and its answer.
-use Rattle.std.specs.Prelude.{Bool, true, false, ℕ, ℤ, pos, ◌≡◌, ◌⊎◌, ◌≤ℤ◌, List, length, All}
+use Rattle.std.specs.Prelude.{Bool, true, ℕ, ℤ, pos, ◌≡◌, ◌⊎◌, ◌≤ℤ◌, List, length, All}
 use Rattle.auc_claim.specs.declared.cert.CertParts.{CertParts}
 use Rattle.auc_claim.specs.declared.reason.Reason.{Reason}
 use Rattle.auc_graph.specs.Assignment.{total}
@@ -13,7 +13,6 @@ use Rattle.auc_rows.specs.Rows.{AreRowsOf, AreSameRows, FlatTable}
 use Rattle.auc_market.specs.declared.ending.Ending.{Ending}
 use Rattle.auc_market.specs.Bids.{State}
 use Rattle.auc_market.specs.Ceiling.{AreSpread, IsMatching, IsWide}
-use Rattle.auc_direct.specs.Adopted.{IsFullTable}
 use Rattle.auc_direct.specs.Phases.{HasRun, IsAdopted}
 use Rattle.auc_market.specs.Phases.{IsRun}
 use Rattle.auc_market.specs.Starts.{AreOpened}
@@ -87,22 +86,12 @@ IsStopTold (Answer.Broken guard) = ⊥
 abbrev pub IsLimitedUnless : Bool → Bool → Answer → Type 0 → Type 0
 IsLimitedUnless before after answer Holds = ((after ≡ true) × IsStopTold answer) ⊎ ((after ≡ before) × Holds)
 
--- each person has an arc to each object
-abbrev pub IsFull : Problem → Type 0
-IsFull p = (r : FlatTable) × AreRowsOf p r × IsFullTable r
-
--- answers that need no question to the watch: that there is no assignment, or what a search over a full table has
--- proposed
-abbrev pub IsUnasked : Problem → Answer → Type 0
-IsUnasked p (Answer.Optimal cert) = IsFull p
-IsUnasked p (Answer.Infeasible cert) = Unit {0}
-IsUnasked p (Answer.Bracket cert) = IsFull p
-IsUnasked p (Answer.Broken guard) = IsFull p
-
--- the watch was asked, or the answer needs no question to it
-abbrev pub IsAsked : Bool → Problem → Answer → Type 0
-IsAsked true p answer = Unit {0}
-IsAsked false p answer = IsUnasked p answer
+-- The watch was asked, unless there is no assignment: that needs no question.
+abbrev pub IsAsked : Bool → Answer → Type 0
+IsAsked asked (Answer.Optimal cert) = asked ≡ true
+IsAsked asked (Answer.Infeasible cert) = Unit {0}
+IsAsked asked (Answer.Bracket cert) = asked ≡ true
+IsAsked asked (Answer.Broken guard) = asked ≡ true
 
 -- prices to which phases of at most this number of bids each lead from the first ones
 abbrev pub AreOfRun : Problem → ℕ → List ℤ → List ℤ → Type 0

@@ -6,7 +6,7 @@ ghost use Rattle.auc_direct.specs.Adopted.{IsFullTable, IsSearched};
 ghost use Rattle.auc_market.specs.Market.{HaveObjects, Stands};
 ghost use Rattle.auc_market.specs.Starts.{ArePricesOf};
 
-use crate::pausing::Pausing;
+use crate::pausing::{Pausing, ask_after};
 use crate::rules::scans_of_table;
 use auc_graph::MOST_PRICE;
 use auc_market::{Holdings, Watch, tried};
@@ -143,7 +143,7 @@ pub(crate) fn search_table<W: Watch>(
     }
     let mut pausing = Pausing::new(rows.objects(), watch);
     let found = adopted(alloc, rows, start, &mut pausing);
-    if watch.has_said_no() {
+    if !ask_after(watch, rows.persons()) {
         return Ok(Searched::Ended);
     }
     match found? {

@@ -27,7 +27,7 @@ mod tuning;
 
 pub use auc_market::{Best, Progress, Watch};
 pub use onward::Onward;
-pub use pausing::Pausing;
+pub use pausing::{Pausing, ask_after};
 pub use solving::{
     DirectLimits, may_start, solve_direct, solve_direct_from, solve_direct_watched,
     solve_direct_watched_from,

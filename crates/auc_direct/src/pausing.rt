@@ -1,5 +1,7 @@
 //! A watch within a search over a table.
 
+ghost use Rattle.std.specs.Prelude.{◌≡◌, true, false};
+
 use crate::tuning::PACING;
 use auc_market::{Progress, Watch};
 use auc_table::Pause;
@@ -41,4 +43,22 @@ impl<W: Watch> Pause for Pausing<'_, W> {
             best: None,
         })
     }
+}
+
+/// Asks a watch at the end of such a search, to which a small table comes before a question is due. Whether the run
+/// goes on; a watch that has said no isn't asked again.
+pub fn ask_after<W: Watch>(watch: &mut W, persons: u32) -> bool
+    ensures yes { result ≡ true → W.has_stopped watch.new ≡ false }
+    ensures no { result ≡ false → W.has_stopped watch.new ≡ true }
+    ensures asked { W.was_asked watch.new ≡ true }
+{
+    if watch.has_said_no() {
+        return false;
+    }
+    watch.goes_on(Progress {
+        eps: 0,
+        held: persons,
+        bids: 0,
+        best: None,
+    })
 }

@@ -9,7 +9,6 @@ ghost use Rattle.auc_rows.specs.Rows.{EachHasArc};
 ghost use Rattle.auc_market.specs.Eps.{IsEpsOf};
 ghost use Rattle.auc_market.specs.Halts.{IsHalt};
 ghost use Rattle.auc_market.specs.Position.{AreHandedOn, Begins, Law};
-ghost use Rattle.auc_direct.specs.Adopted.{IsFullTable};
 ghost use Rattle.auc_direct.specs.Endings.{IsCeilingWide, IsOutcome};
 ghost use Rattle.auc_direct.specs.Runs.{IsPlayedAt, IsRunOut, Plays};
 
@@ -170,7 +169,7 @@ fn run_wide<W: Watch>(
     ensures outcome { IfOk result
         (λ o. IsOutcome rows.now bids market.entry.prices (W.has_stopped watch.old) (W.has_stopped watch.new)
         o.ending o.holdings.prices.items o.holdings.holders.items o.holdings.owns.items) }
-    ensures asked { IfOk result (λ o. (W.was_asked watch.new ≡ true) ⊎ IsFullTable rows.now) }
+    ensures asked { IfOk result (λ o. W.was_asked watch.new ≡ true) }
     ensures halt { IfErr result (λ h. IsHalt rows.now h × (W.has_stopped watch.new ≡ W.has_stopped watch.old)) }
 {
     match search_table(alloc, rows, start, watch)? {
@@ -202,7 +201,7 @@ pub(crate) fn run<W: Watch>(
     ensures outcome { IfOk result
         (λ o. IsOutcome rows.now bids market.entry.prices (W.has_stopped watch.old) (W.has_stopped watch.new)
         o.ending o.holdings.prices.items o.holdings.holders.items o.holdings.owns.items) }
-    ensures asked { IfOk result (λ o. (W.was_asked watch.new ≡ true) ⊎ IsFullTable rows.now) }
+    ensures asked { IfOk result (λ o. W.was_asked watch.new ≡ true) }
     ensures halt { IfErr result (λ h. IsHalt rows.now h × (W.has_stopped watch.new ≡ W.has_stopped watch.old)) }
 {
     if rows.persons() != rows.objects() {
@@ -271,7 +270,7 @@ pub(crate) fn run_first<W: Watch>(
         (λ o. IsOutcome rows.now bids begun (W.has_stopped watch.old) (W.has_stopped watch.new)
         o.ending o.holdings.prices.items o.holdings.holders.items o.holdings.owns.items) }
     ensures ceiling { IfOk result (λ o. IsCeilingWide rows.now o.ending) }
-    ensures asked { IfOk result (λ o. (W.was_asked watch.new ≡ true) ⊎ IsFullTable rows.now) }
+    ensures asked { IfOk result (λ o. W.was_asked watch.new ≡ true) }
     ensures halt { IfErr result (λ h. IsHalt rows.now h × (W.has_stopped watch.new ≡ W.has_stopped watch.old)) }
 {
     let prices = start_prices(alloc, rows)?;

@@ -8,7 +8,6 @@ ghost use Rattle.auc_market.specs.Halts.{IsHalt};
 ghost use Rattle.auc_answers.specs.Answers.{HasAssignment, IsAnswer, IsBracketAnswer, IsInfeasibleAnswer};
 ghost use Rattle.auc_rows.specs.Rows.{AreRowsOf, EachHasArc, FlatTable, IsFlatTable};
 ghost use Rattle.auc_market.specs.Endings.{IsLeft};
-ghost use Rattle.auc_direct.specs.Adopted.{IsFullTable};
 ghost use Rattle.auc_direct.specs.Endings.{IsAsked, IsBracketFor, IsCeilingWide, IsLimited, IsLimitedFirst};
 ghost use Rattle.auc_direct.specs.Endings.{IsLimitedFrom, IsLimitedUnless, IsOfFirstPhases, IsOfPhases};
 ghost use Rattle.auc_direct.specs.Endings.{IsOfPhasesFrom, IsOutcome, IsWideProblem};
@@ -154,8 +153,7 @@ fn concluded(
         (λ o. IsOutcome flat bids begun before after o.ending o.holdings.prices.items o.holdings.holders.items
         o.holdings.owns.items)
         → IfOk result (IsOfPhases problem.now bids begun) }
-    ensures asked { (asked : Bool) → IfOk ended (λ o. (asked ≡ true) ⊎ IsFullTable flat)
-        → IfOk result (IsAsked asked problem.now) }
+    ensures asked { (asked : Bool) → IfOk ended (λ o. asked ≡ true) → IfOk result (IsAsked asked) }
     ensures ceiling { IfOk ended (λ o. IsCeilingWide flat o.ending)
         → IfOk result (λ a. IsBracketFor Reason.Ceiling a → IsWideProblem problem.now) }
 {
@@ -257,8 +255,8 @@ pub fn solve_direct_from(
 /// Where the watch says no, the answer is a bracket with the reason `Bids`, or that there is no assignment. Where it
 /// has said no only before the call, or not at all, a bracket is answered only after a limit: clause `limit`. The
 /// bracket has the pairs of the last whole phase, if there was one. A watch that has said no isn't asked again. That it
-/// was asked at all, but for a full table or where there is no assignment, is clause `asked`. To ask takes O(persons)
-/// time, and that of `goes_on`.
+/// was asked at all, but for where there is no assignment, is clause `asked`. To ask takes O(persons) time, and that of
+/// `goes_on`.
 ///
 /// The watch is not asked:
 ///
@@ -280,7 +278,7 @@ pub fn solve_direct_watched<W: Watch>(
         (λ a. IsLimitedUnless (W.has_stopped watch.old) (W.has_stopped watch.new) a
         (IsLimitedFirst problem.now limits.now.bids a)) }
     ensures run { IfOk result (IsOfFirstPhases problem.now limits.now.bids) }
-    ensures asked { IfOk result (IsAsked (W.was_asked watch.new) problem.now) }
+    ensures asked { IfOk result (IsAsked (W.was_asked watch.new)) }
 {
     let flat = FlatRows::build(alloc, problem)?;
     if let Some(answer) = answered(alloc, problem, &flat)? {
@@ -308,7 +306,7 @@ pub fn solve_direct_watched_from<W: Watch>(
         (λ a. IsLimitedUnless (W.has_stopped watch.old) (W.has_stopped watch.new) a (IsLimitedFrom problem.now
         limits.now.bids start.now a)) }
     ensures run { IfOk result (IsOfPhasesFrom problem.now limits.now.bids start.now) }
-    ensures asked { IfOk result (IsAsked (W.was_asked watch.new) problem.now) }
+    ensures asked { IfOk result (IsAsked (W.was_asked watch.new)) }
 {
     let flat = FlatRows::build(alloc, problem)?;
     if let Some(answer) = answered(alloc, problem, &flat)? {

@@ -96,7 +96,7 @@ unstarted w n a b (Err x) e h p =
 
 -- what holds of a direct solve, by messages alone, and in threads
 pub direct_solve : (direct : Bool) (w : Watched) (n : SolveNumbers) (p : Problem) (start : List ℤ) (answer : Answer) → direct ≡ true
-    → IsAnswer p answer × IsHeeded w p answer (IsLimitedFrom p n.bids start answer) → AnswersFrom direct w n p start answer
+    → IsAnswer p answer × IsHeeded w answer (IsLimitedFrom p n.bids start answer) → AnswersFrom direct w n p start answer
 direct_solve true w n p start answer e h = h
 direct_solve false w n p start answer e h = absurd (false≢true e)
 

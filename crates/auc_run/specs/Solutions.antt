@@ -47,15 +47,15 @@ abbrev pub IsLimitedOr : Bool → Answer → Type 0 → Type 0
 IsLimitedOr false answer Holds = Holds
 IsLimitedOr true answer Holds = Holds ⊎ IsStopTold answer
 
--- He was asked, or needn't have been; and unless he has stopped the run, this holds of its answer.
-abbrev pub IsHeeded : Watched → Problem → Answer → Type 0 → Type 0
-IsHeeded w p answer Holds = IsAsked w.asked p answer × IsLimitedOr w.stopped answer Holds
+-- He was asked, unless there is no assignment; and unless he has stopped the run, this holds of its answer.
+abbrev pub IsHeeded : Watched → Answer → Type 0 → Type 0
+IsHeeded w answer Holds = IsAsked w.asked answer × IsLimitedOr w.stopped answer Holds
 
 -- The same of a direct solve. Where an answer is an assignment and a bound, the bids ran out, or somebody would
 -- bid more than the greatest price; or who watches has stopped it.
 abbrev pub BearOutDirect : Watched → SolveNumbers → List ℕ → Result Answer Refusal → Type 0
 BearOutDirect w n file (Ok answer) =
-    (p : Problem) × IsProblemOf n.sizes file p × IsAnswer p answer × IsHeeded w p answer (IsLimitedFirst p n.bids answer)
+    (p : Problem) × IsProblemOf n.sizes file p × IsAnswer p answer × IsHeeded w answer (IsLimitedFirst p n.bids answer)
 BearOutDirect w n file (Err refusal) = BearOutRefusal n.sizes file refusal
 
 -- the limits of a solve with threads: so many shards of each kind, bids, and places in each trail, and else the usual

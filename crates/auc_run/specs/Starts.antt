@@ -95,7 +95,7 @@ MessagesFrom (suc workers) n p start answer =
 
 -- an answer of a run from these prices: directly where that is asked for, or by messages
 abbrev pub AnswersFrom : Bool → Watched → SolveNumbers → Problem → List ℤ → Answer → Type 0
-AnswersFrom true w n p start answer = IsAnswer p answer × IsHeeded w p answer (IsLimitedFrom p n.bids start answer)
+AnswersFrom true w n p start answer = IsAnswer p answer × IsHeeded w answer (IsLimitedFrom p n.bids start answer)
 AnswersFrom false w n p start answer = MessagesFrom n.workers n p start answer
 
 -- only where there are workers a thread may be missing

@@ -184,7 +184,7 @@ pub fn perform<H: Threads + Wait + Sync, R: Read, Q: Read, W: Write, G: Gate + S
     // The job's numbers are those that its fields allow.
     requires range { IsInRange job.now }
     // What was written, the status and the refusal are those of one outcome, which is right for the bytes that were
-    // read. A direct solve has asked the watch, but for a full table and where there is no assignment.
+    // read. A direct solve has asked the watch, but for where there is no assignment.
     ensures ended { Ended (watched (V.has_stopped watch.new) (V.was_asked watch.new)) job.now (R.remaining reader.old)
         (Q.remaining second.old) (W.contents writer.old) (W.contents writer.new) result }
     // A certificate for what is no problem is left unread.

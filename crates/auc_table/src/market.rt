@@ -1,15 +1,12 @@
 //! Keys of the objects, holders, the object of each person, and bids by which persons take objects from one another.
 
 use crate::gaps::Gap;
-use crate::passes::{least_value, object_of_value};
+use crate::passes::{least_value, object_of_value, value_of};
 use crate::table::{Table, row_of};
 use std::alloc::{AllocError, Global};
 
 /// Marks an object that nobody holds, in place of its holder; and a person who has none, in place of the object.
 pub(crate) const NOBODY: u32 = 4_294_967_295;
-
-/// The number of bids of a chain of displaced persons. The person displaced by the last one takes a path.
-const CHAIN_BIDS: u32 = 4;
 
 /// The best object of a person, and the margin: how much its price may rise until another one is as good; 0 where there
 /// is no other one.
@@ -64,6 +61,14 @@ impl Market {
         Some(self.holders[object])
     }
 
+    /// Whether a person has nothing.
+    pub(crate) fn has_nothing(&self, person: u32) -> bool {
+        match self.owns.get(person as usize) {
+            Some(object) => *object == NOBODY,
+            None => false,
+        }
+    }
+
     /// How many persons have nothing.
     pub(crate) fn count_free(&self) -> u32 {
         let mut many: u32 = 0;
@@ -84,6 +89,21 @@ impl Market {
         self.holders[object] = person;
         self.owns[person as usize] = u32::try_from(object).unwrap_or(NOBODY);
         earlier
+    }
+
+    /// A person takes the best object that nobody holds, where there is one; its price stays.
+    pub(crate) fn take_free<const G: bool>(&mut self, table: &Table, gap: Gap<G>, person: u32) {
+        let row = row_of(table, person);
+        let mut least = i64::MAX;
+        let mut best = row.len();
+        for object in 0..row.len().min(self.keys.len()) {
+            let value = value_of(gap.cost_of(row[object]), self.keys[object]);
+            if value < least && self.holder_of(object).is_none() {
+                least = value;
+                best = object;
+            }
+        }
+        self.hand_over(person, best);
     }
 
     /// Nobody holds anything; prices stay.
@@ -128,14 +148,23 @@ impl Market {
         Some(earlier)
     }
 
-    /// A person bids, then the displaced person, and so on.
-    pub(crate) fn bid_in_chain<const G: bool>(&mut self, table: &Table, gap: Gap<G>, first: u32) {
+    /// A person bids by this eps, then the displaced person, and so on, at most so many times; returns how many bids
+    /// are left.
+    pub(crate) fn bid_in_chain<const G: bool>(
+        &mut self,
+        table: &Table,
+        gap: Gap<G>,
+        first: u32,
+        eps: i64,
+        bids: u64,
+    ) -> u64 {
         let mut person = first;
-        for _ in 0..CHAIN_BIDS {
-            match self.bid(table, gap, person, 0) {
+        for done in 0..bids {
+            match self.bid(table, gap, person, eps) {
                 Some(earlier) => person = earlier,
-                None => return,
+                None => return bids - done - 1,
             }
         }
+        0
     }
 }

@@ -12,7 +12,7 @@ pub(crate) const UNREACHED: i64 = 1_152_921_504_606_846_976;
 
 /// Twice the value of an entry to the person of its row, plus one where its object has a holder: `value` in names here.
 #[inline(always)]
-fn value_of(cost: i64, key: i64) -> i64 {
+pub(crate) fn value_of(cost: i64, key: i64) -> i64 {
     cost.wrapping_mul(2).wrapping_add(key)
 }
 

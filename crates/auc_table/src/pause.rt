@@ -11,7 +11,7 @@ pub trait Pause {
 pub(crate) struct Budget<'a, P> {
     pub(crate) scans: u64,
     pause: &'a mut P,
-    has_ended: bool,
+    pub(crate) is_refused: bool,
 }
 
 impl<'a, P: Pause> Budget<'a, P> {
@@ -20,16 +20,16 @@ impl<'a, P: Pause> Budget<'a, P> {
         Budget {
             scans,
             pause,
-            has_ended: false,
+            is_refused: false,
         }
     }
 
     /// Whether a search ends that has scanned so many.
     pub(crate) fn is_spent(&mut self, scanned: u64) -> bool {
-        if self.has_ended {
+        if self.is_refused || self.scans < scanned {
             return true;
         }
-        self.has_ended = self.scans < scanned || !self.pause.goes_on(scanned);
-        self.has_ended
+        self.is_refused = !self.pause.goes_on(scanned);
+        self.is_refused
     }
 }

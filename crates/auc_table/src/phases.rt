@@ -62,16 +62,26 @@ fn play<P: Pause, const G: bool>(
     }
 }
 
-/// The least eps that is worth a phase, at this mean spread of a row. Where costs are random, neighbouring ones differ
-/// by the spread divided by the number of objects.
-fn last_eps(table: &Table, spread: i64) -> i64 {
-    let between = spread.checked_div(i64::from(table.objects)).unwrap_or(0);
-    between.checked_div(EPS_DIVISOR).unwrap_or(0)
+/// How much neighbouring costs differ, where they are random, at this mean spread of a row.
+fn difference_of(table: &Table, spread: i64) -> i64 {
+    spread.checked_div(i64::from(table.objects)).unwrap_or(0)
 }
 
-/// Raises the prices of a market with as many objects as persons, after which nobody holds anything. Eps falls from an
-/// eighth of `from`, or of the mean spread of a row, until it isn't worth a phase; returns it. At the end the spread is
-/// taken anew, at the prices of then: what a column costs everybody no longer counts there.
+/// The same at these keys.
+pub(crate) fn difference_at<const G: bool>(table: &Table, gap: Gap<G>, keys: &[i64]) -> i64 {
+    difference_of(table, mean_spread(table, gap, keys))
+}
+
+/// The least eps that is worth a phase, at this mean spread of a row.
+fn last_eps(table: &Table, spread: i64) -> i64 {
+    let difference = difference_of(table, spread);
+    difference.checked_div(EPS_DIVISOR).unwrap_or(0)
+}
+
+/// Raises the prices of a market with as many objects as persons, after which nobody holds anything, unless the budget
+/// is spent. Eps falls from an eighth of `from`, or of the mean spread of a row, until it isn't worth a phase; returns
+/// it. At the end the spread is taken anew, at the prices of then: what a column costs everybody no longer counts
+/// there.
 pub(crate) fn raise_prices<P: Pause, const G: bool>(
     table: &Table,
     gap: Gap<G>,
@@ -87,7 +97,10 @@ pub(crate) fn raise_prices<P: Pause, const G: bool>(
         if eps <= last_eps(table, spread) {
             spread = mean_spread(table, gap, market.keys.as_slice());
         }
-        if eps <= last_eps(table, spread) || eps <= 1 || budget.is_spent(market.scanned) {
+        if budget.is_spent(market.scanned) {
+            return eps;
+        }
+        if eps <= last_eps(table, spread) || eps <= 1 {
             break;
         }
     }

@@ -1,15 +1,18 @@
 //! The proposal of the search.
 
 use crate::gaps::Gap;
-use crate::market::{Market, NOBODY};
+use crate::market::Market;
 use crate::paths::Search;
 use crate::pause::{Budget, Pause};
-use crate::phases::{raise_prices, scans_of_paths};
+use crate::phases::{difference_at, raise_prices, scans_of_paths};
 use crate::start::start_keys;
 use crate::table::Table;
 use std::alloc::{AllocError, Global};
 
-/// An assignment, and prices that should show that none costs less.
+/// The number of bids of a chain of displaced persons. The person displaced by the last one takes a path.
+const CHAIN_BIDS: u64 = 4;
+
+/// An assignment, and prices that should show that none costs less; after a no, how much less one may cost.
 #[derive(Drop)]
 pub struct Proposal {
     /// The object of each person.
@@ -32,9 +35,39 @@ fn reduce_rows<P: Pause, const G: bool>(
         if budget.is_spent(market.scanned) {
             break;
         }
-        market.bid_in_chain(table, gap, person);
+        market.bid_in_chain(table, gap, person, 0, CHAIN_BIDS);
     }
     market.count_free()
+}
+
+/// After a no: gives an object to each person who has nothing, by a few passes over the table; returns keys that bound
+/// what any assignment costs. These are of a row reduction. Then bids by what neighbouring costs differ by find most
+/// persons an object that is near their best, and the others take the best of what nobody has.
+fn fill_up<const G: bool>(
+    alloc: Global,
+    table: &Table,
+    gap: Gap<G>,
+    market: &mut Market,
+) -> Result<Vec<i64>, AllocError> {
+    for person in 0..table.persons {
+        if market.has_nothing(person) {
+            market.bid_in_chain(table, gap, person, 0, CHAIN_BIDS);
+        }
+    }
+    let keys = Vec::from_slice(alloc, market.keys.as_slice())?;
+    let eps = difference_at(table, gap, market.keys.as_slice()).max(1);
+    let mut bids = CHAIN_BIDS.saturating_mul(u64::from(table.persons));
+    for person in 0..table.persons {
+        if market.has_nothing(person) {
+            bids = market.bid_in_chain(table, gap, person, eps, bids);
+        }
+    }
+    for person in 0..table.persons {
+        if market.has_nothing(person) {
+            market.take_free(table, gap, person);
+        }
+    }
+    Ok(keys)
 }
 
 /// What the paths of all persons who have nothing have come to.
@@ -65,8 +98,7 @@ fn augment<P: Pause, const G: bool>(
     let mut last: u64 = 0;
     let mut done: u64 = 0;
     for person in 0..table.persons {
-        let own = market.owns.get(person as usize);
-        if own.is_none_or(|object| *object != NOBODY) {
+        if !market.has_nothing(person) {
             continue;
         }
         let taken = market.scanned.saturating_sub(before);
@@ -145,7 +177,10 @@ fn propose_by<P: Pause, const G: bool>(
     let mut search = Search::new(alloc, gap, table.objects)?;
     let paths = assign_all(table, gap, &mut market, &mut search, &mut budget)?;
     if paths != Paths::Taken {
-        return Ok(None);
+        if !budget.is_refused {
+            return Ok(None);
+        }
+        market.keys = fill_up(alloc, table, gap, &mut market)?;
     }
     let Market {
         keys,
@@ -165,8 +200,11 @@ fn propose_by<P: Pause, const G: bool>(
 }
 
 /// Searches for a least assignment of a table, where an entry that equals `gap` is a gap. It scans some more than
-/// `scans` entries at most. Where that doesn't suffice, or there are fewer objects than persons, it returns None. So it
-/// does where `pause` says no, which is asked before each bid outside of a chain and before each path.
+/// `scans` entries at most. Where that doesn't suffice, or there are fewer objects than persons, it returns None.
+///
+/// `pause` is asked before each bid outside of a chain and before each path. After its no persons who have nothing get
+/// an object by a few more passes, and the proposal is that assignment, which need not be least and may have gaps. Its
+/// prices bound what any costs.
 ///
 /// Where `start` has a price for each object, in costs of the table times `scale`, and there are as many objects as
 /// persons, the search starts from these prices if they give a greater lower bound than prices of 0 (weak duality).
@@ -181,7 +219,7 @@ fn propose_by<P: Pause, const G: bool>(
 /// problems", Computing 38, 1987. With as many objects as persons, where that takes long, it begins anew from the
 /// prices of an auction with epsilon scaling.
 ///
-/// Takes O(persons^2 * objects) time at most, and at most 44 bytes of memory an object and 4 a person.
+/// Takes O(persons^2 * objects) time at most, and at most 52 bytes of memory an object and 4 a person.
 ///
 /// # Errors
 ///

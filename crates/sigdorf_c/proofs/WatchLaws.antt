@@ -1,8 +1,7 @@
 -- What a C program is told of its watch.
-use Rattle.std.proofs.Common.{Bool, true, false, ◌≡◌, ◌⊎◌, inl, inr, ℕ, ◌==◌, sym, ap, subst, ◌∙◌}
+use Rattle.std.proofs.Common.{Bool, true, false, ◌≡◌, ◌≢◌, ◌⊎◌, inl, inr, ℕ, zero, suc, ◌==◌, ap, ◌∙◌, arith}
+use Rattle.std.proofs.lemmas.Bool.{false≢true}
 use Rattle.std.specs.Prelude.{if◌then◌else◌, not}
-use Rattle.auc_graph.specs.Problem.{Problem}
-use Rattle.auc_call.specs.Drivers.{WasAsked}
 use Rattle.auc_call.specs.Limited.{UnlessStopped}
 
 abbrev flag : Bool → ℕ
@@ -19,5 +18,6 @@ is_flag true stopped is = inr is
 is_flag false stopped is = inl is
 
 -- the number of questions is handed out
-pub asked_told : (p : Problem) (asked told : ℕ) → told ≡ asked → WasAsked (not (asked == 0)) p → WasAsked (not (told == 0)) p
-asked_told p asked told is h = subst (λ (n : ℕ). WasAsked (not (n == 0)) p) (sym is) h
+pub asked_told : (asked told : ℕ) → told ≡ asked → not (asked == 0) ≡ true → told ≢ 0
+asked_told zero told is h = absurd (false≢true h)
+asked_told (suc asked) told is h = λ none. absurd (omega (arith, is, none))

@@ -8,7 +8,6 @@
 ghost use Rattle.std.specs.Prelude.{◌≡◌, ◌≢◌, ◌==◌, ◌⊎◌, length, not, pos};
 ghost use Rattle.auc_graph.specs.InMemory.{problem_from};
 ghost use Rattle.auc_call.specs.Codes.{stop_kind};
-ghost use Rattle.auc_call.specs.Drivers.{WasAsked};
 ghost use Rattle.auc_call.specs.Memory.{memory};
 ghost use Rattle.auc_call.specs.Start.{start_fault, start_fault_by_messages};
 ghost use Rattle.auc_call.specs.Limited.{IsLimitTold};
@@ -73,7 +72,7 @@ pub extern "C" fn sigdorf_solve(
 
 /// Solves as [`sigdorf_solve`] does, under a watch, which is asked as [`auc_call::solve_call`] says. After its no,
 /// `watch.stopped` is 1, and the status is that of a bracket with the kind of a limit on bids, or that there is no
-/// assignment. Clause `limit` says it of a bracket alone. Clause `asked` says when `watch.asked` may be 0.
+/// assignment. Clause `limit` says it of a bracket alone. Clause `asked`: where an assignment was found, it was asked.
 #[unsafe(no_mangle)]
 pub extern "C" fn sigdorf_solve_by_watch(
     alloc: Global,
@@ -96,8 +95,7 @@ pub extern "C" fn sigdorf_solve_by_watch(
         → ((watch.new.stopped ≡ 1) × (found.new.kind ≡ stop_kind))
         ⊎ IsLimitTold (problem_from persons objects arcs.now) start.now bids
         choice.new prices.new found.new.kind found.new.lower found.new.cost }
-    ensures asked { (result ≡ pos 0) ⊎ (result ≡ pos 4)
-        → WasAsked (not (watch.new.asked == 0)) (problem_from persons objects arcs.now) }
+    ensures asked { (result ≡ pos 0) ⊎ (result ≡ pos 4) → watch.new.asked ≢ 0 }
     ensures stopped { (watch.new.stopped ≡ 0) ⊎ (watch.new.stopped ≡ 1) }
     ensures kept { (watch.new.timer ≡ watch.old.timer) × (watch.new.stop ≡ watch.old.stop)
         × (watch.new.progress ≡ watch.old.progress) }
@@ -192,6 +190,7 @@ pub extern "C" fn sigdorf_solve_dense_by_watch(
         ⊎ ByObjects (table_problem persons objects costs.now stride none).arcs choice.new
         (λ places. IsLimitTold (table_problem persons objects costs.now stride none) start.now bids
         places prices.new found.new.kind found.new.lower found.new.cost) }
+    ensures asked { (result ≡ pos 0) ⊎ (result ≡ pos 4) → watch.new.asked ≢ 0 }
     ensures stopped { (watch.new.stopped ≡ 0) ⊎ (watch.new.stopped ≡ 1) }
     ensures kept { (watch.new.timer ≡ watch.old.timer) × (watch.new.stop ≡ watch.old.stop)
         × (watch.new.progress ≡ watch.old.progress) }

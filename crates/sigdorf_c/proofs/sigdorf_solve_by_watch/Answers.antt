@@ -1,7 +1,6 @@
 use Rattle.std.proofs.Common.{rules, w32}
 use Rattle.std.specs.Prelude.{FitsSigned}
 use Rattle.std.proofs.lemmas.Int.{to_z-of_z}
-use Rattle.auc_graph.specs.InMemory.{problem_from}
 use Rattle.sigdorf_c.specs.Watch.{has_stopped}
 use Rattle.sigdorf_c.proofs.WatchLaws.{asked_told, is_flag, stop_told}
 use Rattle.sigdorf_c.proofs.sigdorf_solve_by_watch.Goals as goal
@@ -17,4 +16,4 @@ returns-clause-stopped c = is_flag (has_stopped c.solve_call-status.new.run.watc
 pub returns-clause-asked : goal.returns-clause-asked
 returns-clause-asked c = λ found.
     let fits : FitsSigned w32 c.solve_call-status.result = search rules in
-    asked_told (problem_from c.args.persons c.args.objects c.args.arcs.now) c.solve_call-status.new.run.watch.asked c.end.new.self.asked c.end.ensures.asked (c.solve_call-status.ensures.asked (simp to_z-of_z at found))
+    asked_told c.solve_call-status.new.run.watch.asked c.end.new.self.asked c.end.ensures.asked (c.solve_call-status.ensures.asked (simp to_z-of_z at found))

@@ -33,6 +33,5 @@ returns-clause-limit g c =
 pub returns-clause-asked : goal.returns-clause-asked
 returns-clause-asked g c =
     let fits : FitsSigned w32 c.tell_solved.result = search rules in
-    let p = listed_problem c.args.given.now in
     let asked = g.W.Watch.was_asked c.solve_into-solved.new.run.watch in
-    simp to_z-of_z (told_asked p asked c.solve_into-solved.result c.tell_solved.result (asked_of p c.args.run.now.start.now c.args.run.now.bids (g.W.Watch.has_stopped c.solve_into-solved.new.run.watch) asked (memory c.solve_into-solved.new.choice c.solve_into-solved.new.prices c.solve_into-solved.new.set) c.solve_into-solved.result c.solve_into-solved.ensures.run) c.tell_solved.ensures.status)
+    simp to_z-of_z (told_asked asked c.solve_into-solved.result c.tell_solved.result (asked_of (listed_problem c.args.given.now) c.args.run.now.start.now c.args.run.now.bids (g.W.Watch.has_stopped c.solve_into-solved.new.run.watch) asked (memory c.solve_into-solved.new.choice c.solve_into-solved.new.prices c.solve_into-solved.new.set) c.solve_into-solved.result c.solve_into-solved.ensures.run) c.tell_solved.ensures.status)

@@ -1,4 +1,4 @@
-use Rattle.std.proofs.Common.{inl, inr, refl, ◌∙◌}
+use Rattle.std.proofs.Common.{refl, ◌∙◌}
 use Rattle.auc_market.specs.Position.{state_at}
 use Rattle.auc_market.proofs.PhasesLaws.{one_phase}
 use Rattle.auc_direct.proofs.Running.{outcome_found, outcome_of, outcome_of_one, outcome_of_stop}
@@ -37,13 +37,13 @@ returns-clause-outcome g c =
 -- ---- who watches was asked
 
 pub returns-in-Some-clause-asked : goal.returns-in-Some-clause-asked
-returns-in-Some-clause-asked g c = inl (rw c.in-Some.is at c.in_ok-ending.ensures.asked)
+returns-in-Some-clause-asked g c = rw c.in-Some.is at c.in_ok-ending.ensures.asked
 
 pub returns-in-Adopted-clause-asked : goal.returns-in-Adopted-clause-asked
-returns-in-Adopted-clause-asked g c = inr (rw c.in-Adopted.is at c.in_ok-holdings.ensures.searched).0.full
+returns-in-Adopted-clause-asked g c = (rw c.in-Adopted.is at c.in_ok-holdings.ensures.searched).2
 
 pub returns-in-Ended-clause-asked : goal.returns-in-Ended-clause-asked
-returns-in-Ended-clause-asked g c = inl (rw c.in-Ended.is at c.in_ok-holdings.ensures.searched).1
+returns-in-Ended-clause-asked g c = (rw c.in-Ended.is at c.in_ok-holdings.ensures.searched).1
 
 pub returns-clause-asked : goal.returns-clause-asked
-returns-clause-asked g c = inl c.in_ok-ending-2.ensures.asked
+returns-clause-asked g c = c.in_ok-ending-2.ensures.asked

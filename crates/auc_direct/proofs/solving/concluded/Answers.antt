@@ -48,13 +48,13 @@ returns-in-Ok-clause-run c = λ bids begun before after ended. (
     )
 
 pub returns-in-Err-clause-asked : goal.returns-in-Err-clause-asked
-returns-in-Err-clause-asked c = λ asked _. of_answers (IsInfeasibleAnswer c.args.problem.now) (IsAsked asked c.args.problem.now) c.halted.result (none_asked asked c.args.problem.now) c.halted.ensures
+returns-in-Err-clause-asked c = λ asked _. of_answers (IsInfeasibleAnswer c.args.problem.now) (IsAsked asked) c.halted.result (none_asked asked c.args.problem.now) c.halted.ensures
 
 pub returns-in-Ok-clause-asked : goal.returns-in-Ok-clause-asked
 returns-in-Ok-clause-asked c = λ asked ended. (
     let p = c.args.problem.now in
     let o = c.in-Ok.outcome in
-    of_answers (IsTold p c.args.flat o.ending o.holdings.prices.items) (IsAsked asked p) c.answer_of.result (λ a _. is_asked asked p c.args.flat c.requires.rows (rw c.in-Ok.is at ended) a) c.answer_of.ensures
+    of_answers (IsTold p c.args.flat o.ending o.holdings.prices.items) (IsAsked asked) c.answer_of.result (λ a _. is_asked asked (rw c.in-Ok.is at ended) a) c.answer_of.ensures
     )
 
 pub returns-in-Ok-clause-ceiling : goal.returns-in-Ok-clause-ceiling

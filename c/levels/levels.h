@@ -170,8 +170,8 @@ static inline double float_at(const job *w, uint32_t place) {
     size_t offset = is_one_run(w) ? place : place / w->q.columns * w->q.stride + place % w->q.columns;
     return w->sign * ((const double *)w->q.costs)[offset];
 }
-/* The bits in which a whole number of the caller's differs from one of those from 0 to 2^64 - 1 that has the same order,
- * turned. */
+/* The bits in which a whole number of the caller's differs from its key: one of the numbers from 0 to 2^64 - 1, which
+ * have the same order, turned. */
 static inline uint64_t turned_bits(const job *w) {
     return (w->q.type == 'q' ? UINT64_C(1) << 63 : 0) ^ (w->sign < 0 ? UINT64_MAX : 0);
 }

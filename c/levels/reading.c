@@ -311,7 +311,8 @@ static uint64_t round_all_whole(const uint64_t *restrict values, size_t count, u
 
 /* Whole numbers as they are, those above `most` as it, with all bits turned where `turned` has all and one added then,
  * which makes them negative. */
-static void turn_all(const uint64_t *restrict values, size_t count, uint64_t turned, int64_t most, int64_t *restrict to) {
+static void turn_all(const uint64_t *restrict values, size_t count, uint64_t turned, int64_t most,
+                     int64_t *restrict to) {
     for (size_t j = 0; j < count; j++) {
         int64_t value = (int64_t)((values[j] ^ turned) - turned);
         to[j] = value < most ? value : most;
@@ -337,28 +338,37 @@ static void put_gates(const double *restrict values, size_t count, double sign, 
     for (size_t j = 0; j < count; j++) to[j] = sign * values[j] > inner ? cost : to[j];
 }
 
-/* A table's costs, where they are doubles that are written run by run; 0 where none has a tail. */
-static uint64_t write_runs(job *w, double rounder) {
-    double scale = w->sign * w->scale, most = w->gate_cost ? w->inner : w->outlets ? most_of(w) : INFINITY;
-    uint64_t tails = 0;
-    size_t length = run_length(w);
-    for (size_t run = 0; run < runs_of(w); run++) {
-        const double *values = run_at(w, run);
-        int64_t *to = w->costs + run * length;
-        tails |= round_all(values, length, scale, w->scale * most, rounder, w->least, to);
-        if (w->gate_cost) put_gates(values, length, w->sign, w->inner, w->gate_cost, to);
-    }
+/* A run of doubles of a table; 0 where none has a tail. */
+static uint64_t write_floats(const job *w, const double *values, size_t count, double rounder, int64_t *to) {
+    double most = w->gate_cost ? w->inner : w->outlets ? most_of(w) : INFINITY;
+    uint64_t tails = round_all(values, count, w->sign * w->scale, w->scale * most, rounder, w->least, to);
+    if (w->gate_cost) put_gates(values, count, w->sign, w->inner, w->gate_cost, to);
     return tails;
 }
 
 /* The same of whole numbers. */
-static uint64_t write_whole(job *w) {
+static uint64_t write_whole(const job *w, const uint64_t *values, size_t count, int64_t *to) {
     if (!w->is_small) {
         uint64_t most = w->outlets ? key_at(w, NO_PLACE) : UINT64_MAX;
-        return round_all_whole(w->q.costs, w->q.count, turned_bits(w), most, -w->unit, w->least_key, w->costs);
+        return round_all_whole(values, count, turned_bits(w), most, -w->unit, w->least_key, to);
     }
     int64_t most = w->outlets ? w->sign * (int64_t)w->q.whole_limit : INT64_MAX;
-    if (w->costs != w->q.costs) turn_all(w->q.costs, w->q.count, w->sign < 0 ? UINT64_MAX : 0, most, w->costs);
+    turn_all(values, count, w->sign < 0 ? UINT64_MAX : 0, most, to);
+    return 0;
+}
+
+/* A table's costs, run by run: of more rows than columns each row is one, and goes to a column. 0, or a status. */
+static int write_runs(job *w, double rounder, uint64_t *tails) {
+    size_t runs = w->by_columns ? w->q.rows : runs_of(w), length = w->by_columns ? w->q.columns : run_length(w);
+    int64_t *row = w->by_columns ? block_of(&w->shop->level, length * 8) : NULL;
+    if (w->by_columns && !row) return SIGDORF_MEMORY;
+    for (size_t run = 0; run < runs; run++) {
+        const double *values = run_at(w, run);
+        int64_t *to = row ? row : w->costs + run * length;
+        *tails |= w->q.type == 'd' ? write_floats(w, values, length, rounder, to)
+                                   : write_whole(w, (const uint64_t *)values, length, to);
+        for (size_t i = 0; row && i < length; i++) w->costs[i * w->width + run] = row[i];
+    }
     return 0;
 }
 
@@ -381,7 +391,7 @@ static void drop_twos(job *w) {
 }
 
 int write_costs(job *w) {
-    int is_float = w->q.type == 'd', is_plain = !w->arcs && !w->by_columns;
+    int is_float = w->q.type == 'd', status = 0;
     w->unit = w->spare = 0, w->least = 0;
     if (!w->is_small && is_float) take_unit(w);
     if (!w->is_small && !is_float) take_whole_unit(w);
@@ -390,12 +400,11 @@ int write_costs(job *w) {
     double rounder = rounder_of(w->unit);
     uint64_t tails = 0;
     /* Small ones too, in whole units from 0. What ran under as it was read would be no tail there. */
-    if (is_plain && is_float && shift >= 0 && (!w->has_gaps || w->outlets))
-        tails = write_runs(w, rounder);
-    else if (is_plain && !is_float)
-        tails = write_whole(w);
-    else
+    if (w->arcs || (is_float && (shift < 0 || (w->has_gaps && !w->outlets))))
         tails = write_each(w, rounder);
+    else if (w->costs != w->q.costs)
+        status = write_runs(w, rounder, &tails);
+    if (status) return status;
     for (size_t i = 0; !w->arcs && i < w->outlets; i++)
         w->costs[w->q.count + i] = whole_of(w, NO_PLACE, rounder, &tails);
     w->has_tails = tails != 0 && !w->is_small;

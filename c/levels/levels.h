@@ -170,11 +170,13 @@ static inline double float_at(const job *w, uint32_t place) {
     size_t offset = is_one_run(w) ? place : place / w->q.columns * w->q.stride + place % w->q.columns;
     return w->sign * ((const double *)w->q.costs)[offset];
 }
-/* A whole number of the caller's, as one of those from 0 to 2^64 - 1 that has the same order, turned. */
+/* The bits in which a whole number of the caller's differs from its key: one of the numbers from 0 to 2^64 - 1, which
+ * have the same order, turned. */
+static inline uint64_t turned_bits(const job *w) {
+    return (w->q.type == 'q' ? UINT64_C(1) << 63 : 0) ^ (w->sign < 0 ? UINT64_MAX : 0);
+}
 static inline uint64_t key_at(const job *w, uint32_t place) {
-    uint64_t key = place == NO_PLACE ? w->q.whole_limit : ((const uint64_t *)w->q.costs)[place];
-    if (w->q.type == 'q') key ^= UINT64_C(1) << 63;
-    return w->sign < 0 ? ~key : key;
+    return (place == NO_PLACE ? w->q.whole_limit : ((const uint64_t *)w->q.costs)[place]) ^ turned_bits(w);
 }
 /* The greatest double, turned, that is no gap: a greater one costs more than the limit, or is infinite. */
 static inline double most_of(const job *w) { return w->q.has_limit ? w->sign * w->q.limit : 0x1.fffffffffffffp1023; }

@@ -106,17 +106,16 @@ static int look_at_some_floats(job *w) {
 static int are_small(const job *w) {
     if (!(w->floor >= -SIGDORF_MOST_COST && w->ceiling <= SIGDORF_MOST_COST)) return 0;
     if (w->q.has_limit && nearest(w->q.limit) != w->q.limit) return 0;
-    double rests = 0, sign = w->sign, most = w->has_gaps ? w->ceiling : INFINITY;
+    double sign = w->sign, most = w->has_gaps ? w->ceiling : INFINITY;
     size_t length = run_length(w);
-    for (size_t run = 0; rests == 0 && run < runs_of(w); run++) {
+    for (size_t run = 0; run < runs_of(w); run++) {
         const double *values = run_at(w, run);
-        for (size_t e = 0; rests == 0 && e < length; e += BLOCK)
-            for (size_t k = e; k < length && k < e + BLOCK; k++) {
-                double value = sign * values[k];
-                rests += value > most ? 0 : fabs(nearest(value) - value);
-            }
+        for (size_t e = 0; e < length; e++) {
+            double value = sign * values[e];
+            if ((nearest(value) != value) & !(value > most)) return 0;
+        }
     }
-    return rests == 0;
+    return 1;
 }
 
 static int look_over_floats(job *w) {
@@ -138,23 +137,30 @@ static int look_over_floats(job *w) {
 static int are_small_whole(const job *w) {
     const uint64_t *values = w->q.costs, most = SIGDORF_MOST_COST, more = w->q.type == 'q' ? most : 0;
     uint64_t beyond = w->q.has_limit && w->q.whole_limit + more > most + more;
-    for (size_t e = 0; e < w->q.count; e++) beyond |= values[e] + more > most + more;
+    for (size_t e = 0, end; !beyond && e < w->q.count; e = end) {
+        end = w->q.count - e < BLOCK ? w->q.count : e + BLOCK;
+        for (size_t k = e; k < end; k++) beyond |= values[k] + more > most + more;
+    }
     return !beyond;
 }
 
 static void look_over_whole(job *w) {
     w->is_small = are_small_whole(w);
     if (w->is_small && !w->q.has_limit) return;
-    uint64_t least = w->q.has_limit ? key_at(w, NO_PLACE) : UINT64_MAX, most = w->q.has_limit ? least : 0;
-    w->entries = w->outlets;
+    /* Keys with another highest bit, as numbers with a sign, since vectors compare these. */
+    uint64_t high = UINT64_C(1) << 63, turned = turned_bits(w) ^ high;
+    int64_t limit = w->q.has_limit ? (int64_t)(key_at(w, NO_PLACE) ^ high) : INT64_MAX, least = limit, most = INT64_MIN;
+    const uint64_t *values = w->q.costs;
+    size_t gaps = 0;
     for (size_t e = 0; e < w->q.count; e++) {
-        uint64_t key = key_at(w, (uint32_t)e);
-        if (is_gap(w, (uint32_t)e)) continue;
-        w->entries++;
+        int64_t key = (int64_t)(values[e] ^ turned);
+        gaps += key > limit;
         least = key < least ? key : least;
         most = key > most ? key : most;
     }
-    w->least_key = least, w->most_key = most;
+    /* A way out costs the limit. */
+    w->least_key = (uint64_t)least ^ high, w->most_key = (uint64_t)(w->q.has_limit ? limit : most) ^ high;
+    w->entries -= gaps;
     w->has_gaps = w->entries < w->q.count + w->outlets;
 }
 
@@ -210,11 +216,10 @@ static int find_gate(const job *w, double *inner) {
     size_t length = run_length(w);
     for (size_t run = 0; run < runs_of(w); run++) {
         const double *values = run_at(w, run);
-        for (size_t e = 0; e < length; e += BLOCK) {
-            for (size_t k = e; k < length && k < e + BLOCK; k++) {
-                double value = sign * values[k];
-                high = value < ceiling && value > high ? value : high;
-            }
+        for (size_t e = 0; e < length; e++) {
+            double value = sign * values[e];
+            if ((value <= high) | (value >= ceiling)) continue;
+            high = value;
             if (!(high - w->floor <= widest)) return 0;
         }
     }
@@ -292,10 +297,25 @@ static uint64_t round_all(const double *restrict values, size_t count, double sc
     return tails << 1;
 }
 
-/* The same of whole numbers as they are. */
-static void turn_all(const int64_t *restrict values, size_t count, int64_t sign, int64_t most, int64_t *restrict to) {
+/* The same of whole numbers, whose units are 2^down, and as their keys. */
+static uint64_t round_all_whole(const uint64_t *restrict values, size_t count, uint64_t turned, uint64_t most, int down,
+                                uint64_t least, int64_t *restrict to) {
+    uint64_t tails = 0, half = (UINT64_C(1) << down) >> 1;
     for (size_t j = 0; j < count; j++) {
-        int64_t value = sign * values[j];
+        uint64_t key = values[j] ^ turned, rest = (key < most ? key : most) - least;
+        uint64_t units = (rest >> down) + ((rest & half) != 0);
+        to[j] = (int64_t)units;
+        tails |= (units << down) ^ rest;
+    }
+    return tails;
+}
+
+/* Whole numbers as they are, those above `most` as it, with all bits turned where `turned` has all and one added then,
+ * which makes them negative. */
+static void turn_all(const uint64_t *restrict values, size_t count, uint64_t turned, int64_t most,
+                     int64_t *restrict to) {
+    for (size_t j = 0; j < count; j++) {
+        int64_t value = (int64_t)((values[j] ^ turned) - turned);
         to[j] = value < most ? value : most;
     }
 }
@@ -319,18 +339,38 @@ static void put_gates(const double *restrict values, size_t count, double sign, 
     for (size_t j = 0; j < count; j++) to[j] = sign * values[j] > inner ? cost : to[j];
 }
 
-/* A table's costs, where they are doubles that are written run by run. */
-static uint64_t write_runs(job *w, double rounder) {
-    double scale = w->sign * w->scale, most = w->gate_cost ? w->inner : w->outlets ? most_of(w) : INFINITY;
-    uint64_t tails = 0;
-    size_t length = run_length(w);
-    for (size_t run = 0; run < runs_of(w); run++) {
-        const double *values = run_at(w, run);
-        int64_t *to = w->costs + run * length;
-        tails |= round_all(values, length, scale, w->scale * most, rounder, w->least, to);
-        if (w->gate_cost) put_gates(values, length, w->sign, w->inner, w->gate_cost, to);
-    }
+/* A run of doubles of a table; 0 where none has a tail. */
+static uint64_t write_floats(const job *w, const double *values, size_t count, double rounder, int64_t *to) {
+    double most = w->gate_cost ? w->inner : w->outlets ? most_of(w) : INFINITY;
+    uint64_t tails = round_all(values, count, w->sign * w->scale, w->scale * most, rounder, w->least, to);
+    if (w->gate_cost) put_gates(values, count, w->sign, w->inner, w->gate_cost, to);
     return tails;
+}
+
+/* The same of whole numbers. */
+static uint64_t write_whole(const job *w, const uint64_t *values, size_t count, int64_t *to) {
+    if (!w->is_small) {
+        uint64_t most = w->outlets ? key_at(w, NO_PLACE) : UINT64_MAX;
+        return round_all_whole(values, count, turned_bits(w), most, -w->unit, w->least_key, to);
+    }
+    int64_t most = w->outlets ? w->sign * (int64_t)w->q.whole_limit : INT64_MAX;
+    turn_all(values, count, w->sign < 0 ? UINT64_MAX : 0, most, to);
+    return 0;
+}
+
+/* A table's costs, run by run: of more rows than columns each row is one, and goes to a column. 0, or a status. */
+static int write_runs(job *w, double rounder, uint64_t *tails) {
+    size_t runs = w->by_columns ? w->q.rows : runs_of(w), length = w->by_columns ? w->q.columns : run_length(w);
+    int64_t *row = w->by_columns ? block_of(&w->shop->level, length * 8) : NULL;
+    if (w->by_columns && !row) return SIGDORF_MEMORY;
+    for (size_t run = 0; run < runs; run++) {
+        const double *values = run_at(w, run);
+        int64_t *to = row ? row : w->costs + run * length;
+        *tails |= w->q.type == 'd' ? write_floats(w, values, length, rounder, to)
+                                   : write_whole(w, (const uint64_t *)values, length, to);
+        for (size_t i = 0; row && i < length; i++) w->costs[i * w->width + run] = row[i];
+    }
+    return 0;
 }
 
 /* How many costs are written. */
@@ -352,7 +392,7 @@ static void drop_twos(job *w) {
 }
 
 int write_costs(job *w) {
-    int is_float = w->q.type == 'd', is_plain = !w->arcs && !w->by_columns;
+    int is_float = w->q.type == 'd', status = 0;
     w->unit = w->spare = 0, w->least = 0;
     if (!w->is_small && is_float) take_unit(w);
     if (!w->is_small && !is_float) take_whole_unit(w);
@@ -361,14 +401,11 @@ int write_costs(job *w) {
     double rounder = rounder_of(w->unit);
     uint64_t tails = 0;
     /* Small ones too, in whole units from 0. What ran under as it was read would be no tail there. */
-    if (is_plain && is_float && shift >= 0 && (!w->has_gaps || w->outlets))
-        tails = write_runs(w, rounder);
-    else if (is_plain && !is_float && w->is_small) {
-        if (w->costs != w->q.costs)
-            turn_all(w->q.costs, w->q.count, w->sign, w->outlets ? w->sign * (int64_t)w->q.whole_limit : INT64_MAX,
-                     w->costs);
-    } else
+    if (w->arcs || (is_float && (shift < 0 || (w->has_gaps && !w->outlets))))
         tails = write_each(w, rounder);
+    else if (w->costs != w->q.costs)
+        status = write_runs(w, rounder, &tails);
+    if (status) return status;
     for (size_t i = 0; !w->arcs && i < w->outlets; i++)
         w->costs[w->q.count + i] = whole_of(w, NO_PLACE, rounder, &tails);
     w->has_tails = tails != 0 && !w->is_small;

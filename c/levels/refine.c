@@ -540,10 +540,12 @@ static int list_person(const job *w, level *l, size_t person, int64_t window) {
     for (size_t e = first; e < end; e++) {
         size_t entry = entry_of(w, l, person, e);
         l->slack[e] = whole_at(w, entry) + l->price[l->object[e]] - own;
-        l->tail[e] = 0;
-        if (w->has_tails) is_other |= tail_of(w, person, entry, &l->tail[e]);
+        l->tail[e] = mine;
+        if (entry == choice)
+            l->pick[person] = (uint32_t)e;
+        else if (w->has_tails)
+            is_other |= tail_of(w, person, entry, &l->tail[e]);
         if (l->slack[e] == 0 && l->tail[e] < mine) l->is_settled = 0;
-        if (entry == choice) l->pick[person] = (uint32_t)e;
     }
     return is_other ? STRANGE : 0;
 }

@@ -30,7 +30,9 @@ def is_whole(value):
 
 def truth(value, name):
     """True or False; 0 and 1 mean them."""
-    if isinstance(value, (bool, numpy.bool_)):
+    if value is False or value is True:
+        return value
+    if isinstance(value, numpy.bool_):
         return bool(value)
     found = attempt(operator.index, value)
     if found not in (0, 1):

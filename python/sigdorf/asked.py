@@ -49,10 +49,12 @@ class Asked:
         return asked
 
     def _take_table(self, table, missing):
-        values, self.names = named(table)
+        # A sparse matrix has no names, and to ask it for some takes longer than to solve a small one.
+        is_stored = is_sparse(table)
+        values, self.names = (table, NUMBERS) if is_stored else named(table)
         if missing:
             values = without_missing(values, self.maximize)
-        if self.decimals is not None or is_sparse(values):
+        if self.decimals is not None or is_stored:
             self._lists = lists_of_matrix(values, self.maximize, self.names)
         else:
             self.table = numbers_of(values)

@@ -49,9 +49,10 @@ def _compressed(matrix, shape):
     if stored > MOST_ENTRIES or len(parts[1]) != stored or shape[0] and (parts[0][0] != 0 or parts[0][-1] != stored or counts.min() < 0):
         return _listed(matrix, shape)
     columns = parts[1].astype(numpy.int64)
-    if stored and not 0 <= columns.min() <= columns.max() < shape[1]:
+    # A negative one is a great one without a sign.
+    if stored and columns.view(numpy.uint64).max() >= shape[1]:
         return _listed(matrix, shape)
-    return numpy.repeat(numpy.arange(shape[0]), counts), columns, parts[2]
+    return numpy.arange(shape[0]).repeat(counts), columns, parts[2]
 
 
 def _listed(matrix, shape):

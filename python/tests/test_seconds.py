@@ -215,15 +215,15 @@ class Many(Limited):
         return began
 
     def test_match_many(self):
-        table, small = products(2_000)[0], numpy.array([[1, 2**40], [2**40, 3]])
+        table, small = products(1_000)[0], numpy.array([[1, 2**40], [2**40, 3]])
         for long in (table, table / 3):
-            tables = [small, small, long, long, small, long, small]
+            tables = [small, small] + [long] * 12 + [small]
             began = time.monotonic()
             found = sigdorf.match_many(tables, 2**38, seconds=0.3)
             self.assert_ended(found, 2, time.monotonic() - began)
 
     def test_solve_many(self):
-        table, small = products(2_000)[0], numpy.array([[1, 2], [1, 4]])
+        table, small = products(1_000)[0], numpy.array([[1, 2], [1, 4]])
         for long in (table, table / 3):
             for threads in (1, 2):
                 began = time.monotonic()

@@ -1,5 +1,4 @@
 """A limit of time, progress, and Ctrl-C: what ends a search, what it has told before, and what is left of it."""
-import ctypes
 import fractions
 import math
 import os
@@ -15,8 +14,7 @@ from limited import Limited, numpy, scipy, sigdorf
 
 if numpy:
     import floats
-    from sigdorf import fast, library, waiting
-    from test_fast import DENSE
+    from sigdorf import fast, waiting
 
 TWO = [0, 0, 1, 1], [0, 1, 0, 1], [1, 2, 1, 4]
 # So long after a limit an answer may come, on a machine that has much else to do.
@@ -212,53 +210,16 @@ class Told(Limited):
         self.assertTrue(inner)
 
 
-class Hasty(Limited):
-    """What is made of any assignment of a table whose search has been ended."""
-
-    def setUp(self):
-        super().setUp()
-        if not fast.is_there():
-            self.skipTest("the extension isn't used")
-
-    def ended(self, table, maximize):
-        """The solution where the library answers at once that the time is up, with each row's own column and no bound that is of use."""
-
-        @ctypes.CFUNCTYPE(ctypes.c_int32, *DENSE)
-        def call(persons, objects, costs, count, stride, gap, *words):
-            table = numpy.array((ctypes.c_int64 * count).from_address(costs)).reshape(persons, objects)
-            cost = int(table[range(persons), range(persons)].sum())
-            (ctypes.c_uint32 * persons).from_address(words[4])[:] = range(persons)
-            library.Watched.from_address(words[3]).stopped = 1
-            found = library.Found.from_address(words[10])
-            found.cost, found.lower, found.kind = cost, cost - 10**15, 1
-            return library.BRACKET
-
-        real = fast.address_of("sigdorf_solve_dense_watched"), fast.address_of("sigdorf_solve_watched")
-        fast._extension.bind(ctypes.cast(call, ctypes.c_void_p).value, real[1])
-        try:
-            return sigdorf.solve(table, seconds=0, maximize=maximize)
-        finally:
-            fast._extension.bind(*real)
-
-    def test_kinds(self):
-        random, better = numpy.random.default_rng(6), 0
-        for number in range(600):
-            table = floats.KINDS[number % len(floats.KINDS)](random, tuple(random.integers(1, 12, 2)))
-            maximize = bool(random.integers(2))
-            sign, least, found = -1 if maximize else 1, sigdorf.solve(table, maximize=maximize), self.ended(table, maximize)
-            with self.subTest(number=number):
-                self.assertEqual(len(set(found.columns.tolist())), min(table.shape))
-                self.assertTrue(sign * found.exact_cost - found.gap <= sign * least.exact_cost <= sign * found.exact_cost)
-                self.assertLessEqual(sign * found.bound, sign * least.cost)
-                better += found.exact_cost == least.exact_cost
-        self.assertGreater(better, 200)
-
+class Ended(Limited):
     def test_is_near(self):
-        """By a few passes costs are some times the least, where any assignment's are hundreds of times."""
-        for table in (numpy.random.default_rng(1).random((400, 400)), numpy.random.default_rng(2).random((300, 400))):
-            least, found = sigdorf.solve(table), self.ended(table, False)
-            self.assertLess(found.cost, 5 * least.cost)
-            self.assertGreater(found.bound, 0.8 * least.cost)
+        """A table whose search was ended has an assignment near the least, where any one costs hundreds of times as much."""
+        if not fast.is_there():
+            self.skipTest("without the extension a table is solved as a list")
+        random = numpy.random.default_rng(1)
+        for table in (random.random((1_500, 1_500)), random.integers(0, 10**6, (1_200, 1_500))):
+            least, found = sigdorf.solve(table), sigdorf.solve(table, seconds=0)
+            self.assertLess(found.cost, 2 * least.cost)
+            self.assertGreater(found.bound, 0.5 * least.cost)
 
 
 class Records(Limited):

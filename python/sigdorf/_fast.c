@@ -23,7 +23,7 @@
 #include "levels.h"
 
 /* Rises where what Python calls changes, so that an extension of other sources isn't used: fast.py has the same. */
-#define INTERFACE 9
+#define INTERFACE 10
 /* With fewer entries a call holds the lock: what giving it up costs would count. */
 #define FEWEST 2000
 /* So many bytes of working memory at most are kept for the next call. */
@@ -31,7 +31,7 @@
 
 /* The library's calls, where they are bound. */
 static library calls;
-static PyObject *array_type, *empty, *int64_type;
+static PyObject *array_type, *empty, *int64_type, *uint64_type, *float_type;
 
 /* ---- Working memory */
 
@@ -197,10 +197,10 @@ static void solve_alone(task *t) {
 
 /* ---- Answers */
 
-/* A new array of so many whole numbers, which are written to `*to`; its buffer is to be released. */
-static PyObject *new_array(size_t count, Py_buffer *view, int64_t **to) {
+/* A new array of so many numbers of a type of 64 bits, which are written to `*to`; its buffer is to be released. */
+static PyObject *new_array(size_t count, PyObject *type, Py_buffer *view, int64_t **to) {
     PyObject *number = PyLong_FromSize_t(count), *array = NULL;
-    if (number) array = PyObject_CallFunctionObjArgs(empty, number, int64_type, NULL);
+    if (number) array = PyObject_CallFunctionObjArgs(empty, number, type, NULL);
     Py_XDECREF(number);
     if (!array || PyObject_GetBuffer(array, view, PyBUF_WRITABLE) < 0) {
         Py_XDECREF(array);
@@ -219,7 +219,7 @@ static PyObject *new_array(size_t count, Py_buffer *view, int64_t **to) {
 static PyObject *array_of(const int64_t *numbers, size_t count) {
     Py_buffer view;
     int64_t *to;
-    PyObject *array = new_array(count, &view, &to);
+    PyObject *array = new_array(count, int64_type, &view, &to);
     if (!array) return NULL;
     memcpy(to, numbers, count * 8);
     PyBuffer_Release(&view);
@@ -233,6 +233,22 @@ static const int64_t *part_of(const job *w, int part, size_t *count) {
     const int64_t *parts[PARTS] = {w->rows, w->columns, w->places, w->free_rows, w->free_columns};
     *count = part < 3 ? w->pairs : (part == 3 ? w->q.rows : w->q.columns) - w->pairs;
     return parts[part];
+}
+
+/* The cost of each pair, as it lies. */
+static PyObject *costs_of(const job *w) {
+    const question *q = &w->q;
+    Py_buffer view;
+    int64_t *to;
+    PyObject *array =
+        new_array(w->pairs, q->type == 'd' ? float_type : q->type == 'q' ? int64_type : uint64_type, &view, &to);
+    if (!array) return NULL;
+    for (size_t k = 0; k < w->pairs; k++) {
+        int64_t place = q->row ? w->places[k] : w->rows[k] * (int64_t)q->stride + w->columns[k];
+        memcpy(to + k, (const char *)q->costs + 8 * place, 8);
+    }
+    PyBuffer_Release(&view);
+    return array;
 }
 
 /* The first of them in a tuple of arrays. */
@@ -311,23 +327,24 @@ static PyObject *shown_of(const job *w, PyObject *total) {
     return fabs(shown) >= DBL_MIN && fabs(shown) <= DBL_MAX ? PyFloat_FromDouble(shown) : Py_NewRef(Py_None);
 }
 
-/* ((rows, columns, places), prices, unit, total, total_unit, shown, gap, gap_unit): `prices` are an array or a list on
+/* ((rows, columns, places), costs, prices, unit, total, total_unit, shown, gap, gap_unit): `prices` are an array or a list on
  * the scale (persons + 1) * 2^unit, or a tuple of levels. The sum of the costs is total / 2^total_unit, where total is
  * odd or total_unit isn't above 0; `total` is None where Python has to add them. `shown` is that sum as it is shown, or
  * None where Python has to round it. */
 static PyObject *solution_of(const job *w) {
-    PyObject *pairs = pairs_of(w, 3);
+    PyObject *pairs = pairs_of(w, 3), *costs = pairs ? costs_of(w) : NULL;
     PyObject *prices = w->are_narrow ? array_of(w->prices, w->objects) : w->combined ? long_prices_of(w) : levels_of(w);
     PyObject *total = w->has_sum ? number_of(w->sign * w->sum) : Py_NewRef(Py_None);
     PyObject *shown = total ? shown_of(w, total) : NULL;
-    if (!pairs || !prices || !shown) {
+    if (!costs || !prices || !shown) {
         Py_XDECREF(pairs);
+        Py_XDECREF(costs);
         Py_XDECREF(prices);
         Py_XDECREF(total);
         Py_XDECREF(shown);
         return NULL;
     }
-    return Py_BuildValue("(NNiNiNLi)", pairs, prices, w->unit, total, w->sum_unit, shown, (long long)w->gap,
+    return Py_BuildValue("(NNNiNiNLi)", pairs, costs, prices, w->unit, total, w->sum_unit, shown, (long long)w->gap,
                          w->gap_unit);
 }
 
@@ -357,7 +374,7 @@ static PyObject *joined(const task *tasks, Py_ssize_t number, int part) {
     int64_t *to;
     for (Py_ssize_t k = 0; k < number; k++)
         if (tasks[k].is_found) part_of(&tasks[k].w, part, &count), all += count;
-    PyObject *array = new_array(all, &view, &to);
+    PyObject *array = new_array(all, int64_type, &view, &to);
     if (!array) return NULL;
     for (Py_ssize_t k = 0; k < number; k++) {
         if (!tasks[k].is_found) continue;
@@ -546,11 +563,11 @@ PyMODINIT_FUNC PyInit__fast(void) {
     if (!numpy) return NULL;
     array_type = PyObject_GetAttrString(numpy, "ndarray");
     empty = PyObject_GetAttrString(numpy, "empty");
-    PyObject *int64 = PyObject_GetAttrString(numpy, "int64");
-    int64_type = int64 ? PyObject_CallMethod(numpy, "dtype", "O", int64) : NULL;
-    Py_XDECREF(int64);
+    int64_type = PyObject_CallMethod(numpy, "dtype", "s", "i8");
+    uint64_type = int64_type ? PyObject_CallMethod(numpy, "dtype", "s", "u8") : NULL;
+    float_type = uint64_type ? PyObject_CallMethod(numpy, "dtype", "s", "f8") : NULL;
     Py_DECREF(numpy);
-    PyObject *module = array_type && empty && int64_type ? PyModule_Create(&definition) : NULL;
+    PyObject *module = array_type && empty && float_type ? PyModule_Create(&definition) : NULL;
     if (module && PyModule_AddIntConstant(module, "INTERFACE", INTERFACE) < 0) Py_CLEAR(module);
     return module;
 }

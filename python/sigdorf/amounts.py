@@ -3,7 +3,6 @@
 A finite float of 64 bits is a whole number of 2^-1074, so that Python's whole numbers hold it in a fine enough unit.
 """
 import fractions
-import functools
 import math
 
 import numpy
@@ -11,11 +10,17 @@ import numpy
 # The bits of a float's fraction, and the unit in which each float is whole.
 BITS_OF_FLOAT, FINEST = 53, 1074
 FEW = 60
-# A Fraction of two numbers without a common factor, since to look for one would take longer than all else. Each Python has it by another name.
-_of_coprime = getattr(fractions.Fraction, "_from_coprime_ints", None)
-if _of_coprime is None and "_normalize" in (fractions.Fraction.__new__.__kwdefaults__ or ()):
-    _of_coprime = functools.partial(fractions.Fraction, _normalize=False)
-_of_coprime = _of_coprime or fractions.Fraction
+# Each Python's Fraction keeps its two numbers in these. Where it doesn't, a Fraction is made as others make it.
+_HAS_PARTS = getattr(fractions.Fraction, "__slots__", None) == ("_numerator", "_denominator")
+
+
+def _of_coprime(number, below):
+    """The Fraction of two numbers without a common factor, since to look for one would take longer than all else."""
+    if not _HAS_PARTS:
+        return fractions.Fraction(number, below)
+    made = object.__new__(fractions.Fraction)
+    made._numerator, made._denominator = number, below
+    return made
 
 
 def unit_of(costs):
@@ -52,7 +57,7 @@ def exact_sum(costs):
 
 def fraction_of(number, unit):
     """number / 2^unit as a Fraction; the number is odd, or the unit isn't above 0."""
-    return fractions.Fraction(number << -unit) if unit <= 0 else _of_coprime(number, 1 << unit)
+    return _of_coprime(number << -unit, 1) if unit <= 0 else _of_coprime(number, 1 << unit)
 
 
 def nearest_float(amount):

@@ -4,6 +4,7 @@ import typing
 
 from numpy.typing import ArrayLike
 
+from . import fast
 from .asked import bids_of
 from .library import USUAL_BIDS
 from .restricted import asked_of
@@ -83,6 +84,14 @@ def solve(
     >>> sigdorf.solve([[1, 2], [1, 4], [1, 3]], forced=[(0, 1)], capacity=2)
     Solution(cost=4, pairs={0: 1, 1: 0, 2: 0})
     """
+    is_entry_list = not columns is costs is shape is None
+    is_restricted = not forced is forbidden is capacity is None
+    has_options = not decimals is missing is start is seconds is progress is None
+    if type(rows) is fast.ARRAY and not (is_entry_list or is_restricted or has_options):
+        # The same road, some steps shorter, since these calls end so soon.
+        solution = fast.solution_of_small(rows, maximize, bids)
+        if solution is not None:
+            return solution
     began = time.monotonic_ns()
     asked = asked_of(rows, columns, costs, shape, maximize, decimals, missing, forced, forbidden, capacity)
     start, bids = asked.start_of(start), bids_of(bids)

@@ -18,7 +18,7 @@ from .whole import priced
 # A call of a table with fewer entries, or of a list with fewer, ends so soon that a thread of its own isn't worth its time.
 FEWEST, FEWEST_LISTED = 1 << 16, 1 << 13
 # That of the extension of these sources; one that was built of others isn't used.
-INTERFACE = 9
+INTERFACE = 10
 ARRAY = numpy.ndarray
 FLOAT, WHOLE, NATURAL = map(numpy.dtype, ("f8", "i8", "u8"))
 
@@ -88,6 +88,15 @@ def found(problem, maximize, wants_prices, limit=None, start=None, bids=USUAL_BI
     return call_waiting(is_long, watch, _extension.found, problem, maximize, wants_prices, limit, start, bids)
 
 
+def found_of_small(table, maximize, wants_prices, bids):
+    """What :func:`found` answers of a caller's array, if that is small and the words are plain, and else False: a plain one isn't looked at by Python at all."""
+    if _extension is None or table.size >= FEWEST or bids is not USUAL_BIDS or not (maximize is False or maximize is True):
+        return False
+    kind = table.dtype
+    is_plain = (kind is FLOAT or kind is WHOLE) and table.flags.c_contiguous
+    return _extension.found(table if is_plain else plain(table), maximize, wants_prices, None, None, bids)
+
+
 def found_under_limits(tables, limits, maximize, bids, watch=None):
     """What :func:`found` answers of each of some plain tables and its limit, by one call; arrays are slices of longer ones."""
     if _extension is None:
@@ -102,6 +111,12 @@ def solution_of(problem, maximize, start=None, bids=USUAL_BIDS, watch=None):
     return None if parts is None else _made(problem, maximize, parts)
 
 
+def solution_of_small(table, maximize, bids):
+    """The Solution of a small array of the caller's, by :func:`found_of_small`, or None."""
+    parts = found_of_small(table, maximize, True, bids)
+    return _made(table, maximize, parts) if parts else None
+
+
 def solutions_of(tables, maximize, watch):
     """The Solution of each plain table of a list, or None in its place."""
     is_long = any(table.size >= FEWEST for table in tables)
@@ -111,10 +126,8 @@ def solutions_of(tables, maximize, watch):
 
 def _made(problem, maximize, parts):
     """The Solution of what the extension has found."""
-    pairs, prices, unit, total, total_unit, shown, gap, gap_unit = parts
-    rows, columns, places = pairs
-    is_list = type(problem) is tuple
-    costs, sides = (problem[2][places], problem[3:]) if is_list else (problem[rows, columns], problem.shape)
+    (rows, columns, places), costs, prices, unit, total, total_unit, shown, gap, gap_unit = parts
+    sides = problem[3:] if type(problem) is tuple else problem.shape
     if total is None:
         exact = exact_sum(costs)
     else:
@@ -129,4 +142,4 @@ def _made(problem, maximize, parts):
     if gap:
         gap = fractions.Fraction(gap) / fractions.Fraction(2) ** gap_unit
         bound = outer_bound(exact + gap if maximize else exact - gap, maximize, type(shown) is int)
-    return Solution(rows, columns, places, shown, bound, prices, scale, exact, gap or 0, None, costs, sides, maximize)
+    return Solution._make((rows, columns, places, shown, bound, prices, scale, exact, gap or 0, None, costs, sides, maximize))

@@ -5,7 +5,6 @@ import warnings
 import numpy
 
 from . import fast
-from .arguments import truth
 from .asked import Asked, bids_of
 from .faults import Mistyped
 from .library import USUAL_BIDS
@@ -27,13 +26,15 @@ def linear_sum_assignment(
     >>> sigdorf.linear_sum_assignment([[4, 1, 3], [2, 0, 5], [3, 2, 2]])
     (array([0, 1, 2]), array([1, 0, 2]))
     """
-    is_array, bids = type(cost_matrix) is fast.ARRAY and decimals is None, bids_of(bids)
-    if is_array:
-        # The same road, a few steps shorter, since these calls end so soon.
-        found = fast.found(fast.plain(cost_matrix), truth(maximize, "maximize"), False, None, None, bids)
-        if found is not None:
-            return found
-    return Asked(cost_matrix, None, None, None, maximize, decimals).pairs(bids, "cost matrix is infeasible", not is_array)
+    found = False
+    if type(cost_matrix) is fast.ARRAY and decimals is None:
+        # The same road, some steps shorter, since these calls end so soon.
+        found = fast.found_of_small(cost_matrix, maximize, False, bids)
+    if found:
+        return found
+    bids = bids_of(bids)
+    asked = Asked(cost_matrix, None, None, None, maximize, decimals)
+    return asked.pairs(bids, "cost matrix is infeasible", found is False)
 
 
 def min_weight_full_bipartite_matching(

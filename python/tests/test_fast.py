@@ -81,6 +81,7 @@ class Fast(Limited):
                             solution = sigdorf.solve(given, maximize=maximize)
                             self.assertEqual(solution.exact_cost, wanted)
                             sigdorf.check(solution, matrix, maximize=maximize)
+                            self.assertEqual(solution.costs.tolist(), matrix[solution.rows, solution.columns].tolist())
 
     def test_kinds_of_costs(self):
         """Solutions as without the extension: cost, exact cost and types; and a check lets them pass."""

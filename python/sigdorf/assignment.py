@@ -84,10 +84,9 @@ def solve(
     >>> sigdorf.solve([[1, 2], [1, 4], [1, 3]], forced=[(0, 1)], capacity=2)
     Solution(cost=4, pairs={0: 1, 1: 0, 2: 0})
     """
-    is_entry_list = not columns is costs is shape is None
-    is_restricted = not forced is forbidden is capacity is None
-    has_options = not decimals is missing is start is seconds is progress is None
-    if type(rows) is fast.ARRAY and not (is_entry_list or is_restricted or has_options):
+    is_table = type(rows) is fast.ARRAY and columns is costs is shape is None
+    has_no_words = decimals is missing is forced is forbidden is capacity is start is seconds is progress is None
+    if is_table and has_no_words:
         # The same road, some steps shorter, since these calls end so soon.
         solution = fast.solution_of_small(rows, maximize, bids)
         if solution is not None:

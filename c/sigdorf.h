@@ -76,7 +76,7 @@ typedef struct sigdorf_found_f64 {
 } sigdorf_found_f64;
 
 /* What ends a search before its own end, and to whom it says how far it is. It is asked before each phase, and each time that some
- * 4 million arcs or entries were looked at, which takes some milliseconds. 24 bytes. */
+ * 4 million arcs or entries were looked at, which takes some milliseconds; and where the search over a table ends. 24 bytes. */
 typedef struct sigdorf_watch {
     int64_t until;    /* when the search ends, in nanoseconds of CLOCK_MONOTONIC, as sigdorf_until has it; 0: never */
     int32_t stop;     /* a descriptor that ends the search as soon as there is something to read, of which up to 8 bytes are read; -1:

@@ -53,6 +53,21 @@ impl Market {
         })
     }
 
+    /// Persons hold these objects, at these prices of all objects.
+    pub(crate) fn held(prices: Vec<i64>, holders: Vec<u32>, owns: Vec<u32>) -> Market {
+        let mut keys = prices;
+        for object in 0..keys.len().min(holders.len()) {
+            let held = if holders[object] == NOBODY { 0 } else { 1 };
+            keys[object] = keys[object].wrapping_mul(2).wrapping_add(held);
+        }
+        Market {
+            keys,
+            holders,
+            owns,
+            scanned: 0,
+        }
+    }
+
     /// The holder of an object.
     pub(crate) fn holder_of(&self, object: usize) -> Option<u32> {
         if object >= self.holders.len() || self.holders[object] == NOBODY {

@@ -12,10 +12,11 @@ use std::alloc::{AllocError, Global};
 /// The number of bids of a chain of displaced persons. The person displaced by the last one takes a path.
 const CHAIN_BIDS: u64 = 4;
 
-/// An assignment, and prices that should show that none costs less; after a no, how much less one may cost.
+/// An assignment, and prices that should show that none costs less; where the search ended early, how much less one may
+/// cost. Where some person has nothing, that there is no assignment.
 #[derive(Drop)]
 pub struct Proposal {
-    /// The object of each person.
+    /// The object of each person; a number above all objects where the person has nothing.
     pub objects: Vec<u32>,
     /// For each object the person who has it; a number above all persons where nobody does.
     pub holders: Vec<u32>,
@@ -40,14 +41,16 @@ fn reduce_rows<P: Pause, const G: bool>(
     market.count_free()
 }
 
-/// After a no: gives an object to each person who has nothing, by a few passes over the table; returns keys that bound
-/// what any assignment costs. These are of a row reduction. Then bids by what neighbouring costs differ by find most
-/// persons an object that is near their best, and the others take the best of what nobody has.
+/// Where a search ends early: gives an object to each person who has nothing, by a few passes over the table; returns
+/// keys that bound what any assignment costs. These are of a row reduction. Then bids by what neighbouring costs differ
+/// by find most persons an object that is near their best, and the others take the best of what nobody has, or a path
+/// to it where gaps are in the way. Where a person has no path, that person keeps nothing.
 fn fill_up<const G: bool>(
     alloc: Global,
     table: &Table,
     gap: Gap<G>,
     market: &mut Market,
+    search: &mut Search<G>,
 ) -> Result<Vec<i64>, AllocError> {
     for person in 0..table.persons {
         if market.has_nothing(person) {
@@ -65,6 +68,11 @@ fn fill_up<const G: bool>(
     for person in 0..table.persons {
         if market.has_nothing(person) {
             market.take_free(table, gap, person);
+        }
+    }
+    for person in 0..table.persons {
+        if market.has_nothing(person) && !search.go(table, market, person)? {
+            break;
         }
     }
     Ok(keys)
@@ -176,11 +184,11 @@ fn propose_by<P: Pause, const G: bool>(
     let mut market = Market::new(alloc, table.persons, keys)?;
     let mut search = Search::new(alloc, gap, table.objects)?;
     let paths = assign_all(table, gap, &mut market, &mut search, &mut budget)?;
-    if paths != Paths::Taken {
+    if paths == Paths::Long {
         if !budget.is_refused {
             return Ok(None);
         }
-        market.keys = fill_up(alloc, table, gap, &mut market)?;
+        market.keys = fill_up(alloc, table, gap, &mut market, &mut search)?;
     }
     let Market {
         keys,
@@ -199,12 +207,60 @@ fn propose_by<P: Pause, const G: bool>(
     }))
 }
 
-/// Searches for a least assignment of a table, where an entry that equals `gap` is a gap. It scans some more than
-/// `scans` entries at most. Where that doesn't suffice, or there are fewer objects than persons, it returns None.
+/// Fills a proposal up in a table with such gaps.
+fn complete_by<const G: bool>(
+    alloc: Global,
+    table: &Table,
+    gap: Gap<G>,
+    proposal: Proposal,
+) -> Result<Proposal, AllocError> {
+    let Proposal {
+        objects,
+        holders,
+        prices,
+    } = proposal;
+    let keys = Vec::from_slice(alloc, prices.as_slice())?;
+    let mut market = Market::held(keys, holders, objects);
+    let mut search = Search::new(alloc, gap, table.objects)?;
+    fill_up(alloc, table, gap, &mut market, &mut search)?;
+    let Market {
+        holders,
+        owns: objects,
+        ..
+    } = market;
+    Ok(Proposal {
+        objects,
+        holders,
+        prices,
+    })
+}
+
+/// Gives each person who has nothing an object, by a few passes over the table and by paths. Each object that somebody
+/// holds is held still, if by another, and prices stay as they were. It is as [`propose`] ends after a no.
 ///
-/// `pause` is asked before each bid outside of a chain and before each path. After its no persons who have nothing get
-/// an object by a few more passes, and the proposal is that assignment, which need not be least and may have gaps. Its
+/// # Errors
+///
+/// Only where memory was refused.
+pub fn complete(
+    alloc: Global,
+    table: &Table,
+    gap: Option<i64>,
+    proposal: Proposal,
+) -> Result<Proposal, AllocError> {
+    match gap {
+        Some(gap) => complete_by(alloc, table, Gap::<true>(gap), proposal),
+        None => complete_by(alloc, table, Gap::<false>(0), proposal),
+    }
+}
+
+/// Searches for a least assignment of a table that has no fewer objects than persons, where an entry that equals `gap`
+/// is a gap. It scans some more than `scans` entries at most, and returns None where that doesn't suffice.
+///
+/// `pause` is asked before each bid outside of a chain and before each path. After its no, persons who have nothing get
+/// an object by a few more passes and by paths. The proposal is that assignment then, which need not be least. Its
 /// prices bound what any costs.
+///
+/// Where some person has no path to an object that nobody has, there is no assignment, and that person has nothing.
 ///
 /// Where `start` has a price for each object, in costs of the table times `scale`, and there are as many objects as
 /// persons, the search starts from these prices if they give a greater lower bound than prices of 0 (weak duality).

@@ -1,7 +1,7 @@
 //! The search over a table by itself, of which nothing is proved but that it ends.
 
 use crate::same::assert_same;
-use auc_table::{Pause, Proposal, Table, propose};
+use auc_table::{Pause, Proposal, Table, complete, propose};
 use std::test::*;
 
 /// No entry is where this number is.
@@ -20,6 +20,18 @@ impl Pause for Endless {
 /// More looks than a table of three rows takes.
 const ENOUGH: u64 = 1_000;
 
+/// Three objects of persons; a number above all objects where a person has nothing.
+type Objects = (u32, u32, u32);
+
+/// The objects of three persons.
+fn objects_of(found: &Proposal) -> Option<Objects> {
+    let objects = found.objects.as_slice();
+    if objects.len() != 3 {
+        return None;
+    }
+    Some((objects[0], objects[1], objects[2]))
+}
+
 /// The objects that are proposed for three persons.
 fn proposed(
     rt: &HostRuntime,
@@ -27,7 +39,7 @@ fn proposed(
     costs: &[i64],
     gap: Option<i64>,
     looks: u64,
-) -> Option<(u32, u32, u32)> {
+) -> Option<Objects> {
     let table = Table {
         persons: 3,
         objects,
@@ -35,11 +47,29 @@ fn proposed(
         costs,
     };
     let found = propose(rt.alloc(), &table, gap, &[], 1, looks, &mut Endless).ok()??;
-    let objects = found.objects.as_slice();
-    if objects.len() != 3 {
+    objects_of(&found)
+}
+
+/// The objects of three persons, where the first one holds the first object at this price, and the others are filled
+/// up.
+fn completed(rt: &HostRuntime, costs: &[i64], gap: Option<i64>, price: i64) -> Option<Objects> {
+    let table = Table {
+        persons: 3,
+        objects: 3,
+        stride: 3,
+        costs,
+    };
+    let nobody = u32::MAX;
+    let proposal = Proposal {
+        objects: vec![in rt.alloc(); 0, nobody, nobody].ok()?,
+        holders: vec![in rt.alloc(); 0, nobody, nobody].ok()?,
+        prices: vec![in rt.alloc(); price, 0, 0].ok()?,
+    };
+    let found = complete(rt.alloc(), &table, gap, proposal).ok()?;
+    if found.prices.as_slice() != [price, 0, 0] {
         return None;
     }
-    Some((objects[0], objects[1], objects[2]))
+    objects_of(&found)
 }
 
 /// 1 and 2 and 2; and what costs least of products, the greatest by the least.
@@ -61,13 +91,43 @@ fn wide_with_gaps(rt: HostRuntime) {
     assert_same(&rt, told, Some((0, 2, 1)));
 }
 
-/// With no looks, and with fewer objects than persons.
+/// With no looks.
 #[test]
-fn nothing(rt: HostRuntime) {
+fn spent(rt: HostRuntime) {
     let costs = [4, 1, 3, 2, 0, 5, 3, 2, 2];
     assert_same(&rt, proposed(&rt, 3, &costs, None, 0), None);
-    assert_same(&rt, proposed(&rt, 2, &costs, None, ENOUGH), None);
-    assert_same(&rt, proposed(&rt, 3, &costs[..8], None, ENOUGH), None);
+}
+
+/// What is held is held still. The last person's one object is taken, so a path leads to it.
+#[test]
+fn filled_up(rt: HostRuntime) {
+    let costs = [4, 1, 3, 2, 0, 5, 3, 2, 2];
+    assert_same(&rt, completed(&rt, &costs, None, 9), Some((0, 1, 2)));
+    let costs = [1, 2, GAP, 2, 3, 9, 1, GAP, GAP];
+    let told = completed(&rt, &costs, Some(GAP), 3);
+    assert_same(&rt, told, Some((1, 2, 0)));
+    let costs = [1, GAP, GAP, 2, GAP, GAP, 1, 2, 3];
+    assert_same(&rt, is_short(completed(&rt, &costs, Some(GAP), 0)), true);
+}
+
+/// Whether somebody is proposed nothing.
+fn is_short(told: Option<Objects>) -> bool {
+    let nobody = u32::MAX;
+    told.is_some_and(|told| told.0 == nobody || told.1 == nobody || told.2 == nobody)
+}
+
+/// With fewer objects than persons, with a row that doesn't lie within the costs, and where two persons want one
+/// object.
+#[test]
+fn short(rt: HostRuntime) {
+    let costs = [4, 1, 3, 2, 0, 5, 3, 2, 2];
+    let told = proposed(&rt, 2, &costs, None, ENOUGH);
+    assert_same(&rt, is_short(told), true);
+    let told = proposed(&rt, 3, &costs[..8], None, ENOUGH);
+    assert_same(&rt, is_short(told), true);
+    let costs = [1, GAP, GAP, 2, GAP, GAP, 1, 2, 3];
+    let told = proposed(&rt, 3, &costs, Some(GAP), ENOUGH);
+    assert_same(&rt, is_short(told), true);
 }
 
 /// How many rows the table of products has: so many that paths alone would pass over it too often, and the auction is

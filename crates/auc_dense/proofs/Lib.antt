@@ -3,6 +3,9 @@ mod TriedLaws
 mod ShownLaws
 mod BracketLaws
 mod QuickLaws
+mod FlatLaws
+mod FoundLaws
+mod BiddingLaws
 mod EntryLaws
 mod FaultLaws
 mod NamingLaws

@@ -61,7 +61,7 @@ objects_there arcs (a ∷ choice) known =
 
 -- ---- prices
 
-scaled_price : (s : ℕ) (prices : List ℤ) (j : ℕ) → j < length prices → price_at (map (scaled (pos s)) prices) j ≡ pos s *ℤ get_or prices j (pos 0)
+pub scaled_price : (s : ℕ) (prices : List ℤ) (j : ℕ) → j < length prices → price_at (map (scaled (pos s)) prices) j ≡ pos s *ℤ get_or prices j (pos 0)
 scaled_price s prices j lt = get_or-map (scaled (pos s)) prices j (pos 0) (pos 0) lt
 
 -- what an arc is worth at the scaled prices

@@ -3,6 +3,7 @@ pub mod Table
 pub mod Entries
 pub mod TableSolving
 pub mod Tried
+pub mod Bidding
 pub mod Quick
 pub mod Given
 pub mod Told

@@ -4,6 +4,7 @@
 //! solves them. The statuses are those of `auc_call`.
 #![tactic(auto)]
 
+mod bidding;
 mod bounding;
 mod given;
 mod naming;

@@ -25,7 +25,7 @@ pub(crate) fn scale_of(persons: u32) -> i64
 
 /// Whether this is a price in costs of the table, which is a price still where it is scaled.
 #[inline]
-fn is_plain(scale: i64, price: i64) -> bool
+pub(crate) fn is_plain(scale: i64, price: i64) -> bool
     ensures { IsTrue result → IsPlainPrice scale price }
 {
     if price < 0 || MOST_PRICE < price {

@@ -8,6 +8,8 @@ mod FoundLaws
 mod BiddingLaws
 mod EntryLaws
 mod FaultLaws
+mod MarkLaws
+mod ShortageLaws
 mod NamingLaws
 mod ToldTables
 mod WorkedTables

@@ -4,6 +4,7 @@ pub mod Entries
 pub mod TableSolving
 pub mod Tried
 pub mod Bidding
+pub mod Shortage
 pub mod Quick
 pub mod Given
 pub mod Told

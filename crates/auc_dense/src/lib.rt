@@ -9,6 +9,8 @@ mod bounding;
 mod given;
 mod naming;
 mod quick;
+mod reaching;
+mod shortage;
 mod table;
 mod table_call;
 mod table_solving;

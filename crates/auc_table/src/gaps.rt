@@ -9,13 +9,15 @@ pub(crate) const GAP_COST: i64 = 70_368_744_177_664;
 pub(crate) struct Gap<const IS_ANY: bool>(pub(crate) i64);
 
 impl<const IS_ANY: bool> Gap<IS_ANY> {
+    /// Whether an entry is a gap.
+    #[inline(always)]
+    pub(crate) fn is_at(self, entry: i64) -> bool {
+        IS_ANY && entry == self.0
+    }
+
     /// The cost of an entry.
     #[inline(always)]
     pub(crate) fn cost_of(self, entry: i64) -> i64 {
-        if IS_ANY && entry == self.0 {
-            GAP_COST
-        } else {
-            entry
-        }
+        if self.is_at(entry) { GAP_COST } else { entry }
     }
 }

@@ -106,14 +106,26 @@ impl Market {
         earlier
     }
 
-    /// A person takes the best object that nobody holds, where there is one; its price stays.
+    /// Each person who holds a gap leaves it.
+    pub(crate) fn leave_gaps<const G: bool>(&mut self, table: &Table, gap: Gap<G>) {
+        for person in 0..self.owns.len() {
+            let object = self.owns[person] as usize;
+            let row = row_of(table, u32::try_from(person).unwrap_or(NOBODY));
+            if object < row.len() && object < self.holders.len() && gap.is_at(row[object]) {
+                self.holders[object] = NOBODY;
+                self.owns[person] = NOBODY;
+            }
+        }
+    }
+
+    /// A person takes the best object that nobody holds, where there is one and no gap; its price stays.
     pub(crate) fn take_free<const G: bool>(&mut self, table: &Table, gap: Gap<G>, person: u32) {
         let row = row_of(table, person);
         let mut least = i64::MAX;
         let mut best = row.len();
         for object in 0..row.len().min(self.keys.len()) {
             let value = value_of(gap.cost_of(row[object]), self.keys[object]);
-            if value < least && self.holder_of(object).is_none() {
+            if value < least && !gap.is_at(row[object]) && self.holder_of(object).is_none() {
                 least = value;
                 best = object;
             }

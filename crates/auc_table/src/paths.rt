@@ -4,7 +4,7 @@
 //! This is Dijkstra's search over reduced costs. It has no heap, since each row that is scanned reaches every object
 //! anyway.
 
-use crate::gaps::Gap;
+use crate::gaps::{GAP_COST, Gap};
 use crate::market::{Market, NOBODY};
 use crate::passes::{UNREACHED, come_nearer, object_at};
 use crate::table::{Table, row_of};
@@ -96,8 +96,17 @@ impl<const G: bool> Search<G> {
         })
     }
 
+    /// Whether the path to a free object has a gap. All costs that a path without gaps adds come to less than that of
+    /// a gap, since the tables of a solve have at most 16,384 rows.
+    fn has_gap(&self, market: &Market, end: Settled) -> bool {
+        match market.keys.get(end.object) {
+            Some(key) => G && GAP_COST <= end.distance.wrapping_sub(*key),
+            None => false,
+        }
+    }
+
     /// Relaxes one row after another, until a free object is the closest one, and returns it. None where no object is
-    /// left.
+    /// left, or where only a path with a gap is.
     fn find(
         &mut self,
         table: &Table,
@@ -113,7 +122,8 @@ impl<const G: bool> Search<G> {
                 return Ok(None);
             };
             let Some(holder) = market.holder_of(nearest.object) else {
-                return Ok(Some(nearest));
+                let is_path = !self.has_gap(market, nearest);
+                return Ok(if is_path { Some(nearest) } else { None });
             };
             by = self.settle(table, market, nearest, holder)?;
         }
@@ -154,7 +164,7 @@ impl<const G: bool> Search<G> {
         }
     }
 
-    /// A person who has nothing takes a shortest path; returns whether there is one.
+    /// A person who has nothing takes a shortest path; returns whether there is one. Keys are of no use after a no.
     pub(crate) fn go(
         &mut self,
         table: &Table,

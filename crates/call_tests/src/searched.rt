@@ -107,13 +107,28 @@ fn filled_up(rt: HostRuntime) {
     let told = completed(&rt, &costs, Some(GAP), 3);
     assert_same(&rt, told, Some((1, 2, 0)));
     let costs = [1, GAP, GAP, 2, GAP, GAP, 1, 2, 3];
-    assert_same(&rt, is_short(completed(&rt, &costs, Some(GAP), 0)), true);
+    assert_same(
+        &rt,
+        is_short(3, &costs, completed(&rt, &costs, Some(GAP), 0)),
+        true,
+    );
 }
 
-/// Whether somebody is proposed nothing.
-fn is_short(told: Option<Objects>) -> bool {
-    let nobody = u32::MAX;
-    told.is_some_and(|told| told.0 == nobody || told.1 == nobody || told.2 == nobody)
+/// Whether one of three persons is proposed nothing, or a gap, in a table of so many objects.
+fn is_short(objects: u32, costs: &[i64], told: Option<Objects>) -> bool {
+    let Some(told) = told else {
+        return false;
+    };
+    let mut is_short = false;
+    let each = [told.0, told.1, told.2];
+    for person in 0..each.len() {
+        let place = person * objects as usize + (each[person] % 4) as usize;
+        is_short = is_short
+            || each[person] >= objects
+            || place >= costs.len()
+            || costs[place] == GAP;
+    }
+    is_short
 }
 
 /// With fewer objects than persons, with a row that doesn't lie within the costs, and where two persons want one
@@ -122,12 +137,14 @@ fn is_short(told: Option<Objects>) -> bool {
 fn short(rt: HostRuntime) {
     let costs = [4, 1, 3, 2, 0, 5, 3, 2, 2];
     let told = proposed(&rt, 2, &costs, None, ENOUGH);
-    assert_same(&rt, is_short(told), true);
+    assert_same(&rt, is_short(2, &costs, told), true);
     let told = proposed(&rt, 3, &costs[..8], None, ENOUGH);
-    assert_same(&rt, is_short(told), true);
+    assert_same(&rt, is_short(3, &costs[..8], told), true);
+    let told = proposed(&rt, 3, &costs, None, ENOUGH);
+    assert_same(&rt, is_short(3, &costs, told), false);
     let costs = [1, GAP, GAP, 2, GAP, GAP, 1, 2, 3];
     let told = proposed(&rt, 3, &costs, Some(GAP), ENOUGH);
-    assert_same(&rt, is_short(told), true);
+    assert_same(&rt, is_short(3, &costs, told), true);
 }
 
 /// How many rows the table of products has: so many that paths alone would pass over it too often, and the auction is

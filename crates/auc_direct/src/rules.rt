@@ -10,21 +10,23 @@
 //!    can be reached, the persons reached are a Hall violator.
 //! 4. **Phases** (epsilon scaling). Columns are reduced. Eps begins at the mean spread of a row divided by the mean
 //!    number of its arcs, and is divided by 8 from phase to phase. Prices stay, and nobody keeps an object.
-//! 5. **Ties, too fine, or calm.** Where most rows have two best arcs of the same value, the last phase is tried
-//!    first. After three bids a person it is given up where more than one person in twenty is free: bids that met free
-//!    objects by chance would leave so many. Else it may make a bid a person more for each halving of the spread of all
-//!    costs. The first phase is given up once it has made more bids for each person than eps can be halved before it is
-//!    1. Eps then begins anew, at the mean spread of a row divided by the square root of the mean number of its arcs.
-//!    After a phase of fewer than two bids a person the last phase is tried at once. It may make a bid a person for
-//!    each phase from there on.
+//! 5. **Apart, ties, too fine, or calm.** Where nineteen persons in twenty of a sample have the cheapest arc of some
+//!    object, persons hold what is best for them at the reduced columns before any bid, and the last phase is tried
+//!    first. Of points in order along a line it gives nearly all an object. So it is tried where most rows have two best
+//!    arcs of the same value. After three bids a person it is given up where more than one person in twenty is free:
+//!    bids that met free objects by chance would leave so many. Else it may make a bid a person more for each halving of
+//!    the spread of all costs. The first phase is given up once it has made more bids for each person than eps can be
+//!    halved before it is 1. Eps then begins anew, at the mean spread of a row divided by the square root of the mean
+//!    number of its arcs. After a phase of fewer than two bids a person the last phase is tried at once. It may make a
+//!    bid a person for each phase from there on.
 //! 6. **More objects than persons.** One phase at the last eps, from prices of 0, since an object that nobody holds has
 //!    to have price 0.
 
 use crate::tuning::{
-    CACHED_ENTRIES, CALM_BIDS_PER_PERSON, FREE_DIVISOR, START_BIDS_PER_PERSON, TABLE_PASSES,
-    TIES_BIDS_PER_PERSON,
+    CACHED_ENTRIES, CALM_BIDS_PER_PERSON, FREE_DIVISOR, SAMPLED_ROWS, START_BIDS_PER_PERSON,
+    TABLE_PASSES, TIES_BIDS_PER_PERSON,
 };
-use auc_market::{Attempt, LAST_EPS};
+use auc_market::{Attempt, LAST_EPS, Sample};
 use auc_rows::FlatRows;
 use auc_table::{EPS_DIVISOR, PASSES};
 
@@ -86,9 +88,25 @@ pub(crate) fn attempt_with_ties(rows: &FlatRows, are_there: bool) -> Attempt {
     }
 }
 
-/// The last phase from start prices, with as many objects as persons.
-pub(crate) fn attempt_from_start(rows: &FlatRows, is_start: bool) -> Attempt {
-    attempt_of(rows, if is_start { START_BIDS_PER_PERSON } else { 0 })
+/// Whether it is worth a sample whether persons may hold objects before the first phase. Not where it would be of all
+/// rows, nor in a full table, which is searched as a table.
+pub(crate) fn may_hold_first(rows: &FlatRows) -> bool {
+    let entries = (rows.persons() as usize).saturating_mul(rows.objects() as usize);
+    rows.persons() >= 2 * SAMPLED_ROWS && rows.arc_count() < entries
+}
+
+/// Whether, at reduced columns, nearly each person has the cheapest arc of some object. So far apart are their best
+/// arcs that nearly each can hold one.
+pub(crate) fn are_apart(sample: Sample) -> bool {
+    sample.above <= sample.persons / FREE_DIVISOR
+}
+
+/// The last phase, in which persons keep what they hold: from start prices, or from reduced columns.
+pub(crate) fn attempt_of_held(rows: &FlatRows, held: u32, is_start: bool) -> Attempt {
+    if is_start {
+        return attempt_of(rows, START_BIDS_PER_PERSON);
+    }
+    attempt_with_ties(rows, held > 0)
 }
 
 /// The number of entries that the search of a full table may scan: of one in the cache as many as paths and a phase of

@@ -15,12 +15,14 @@ ghost use Rattle.auc_direct.specs.Runs.{IsPlayedAt, IsRunOut, Plays};
 use crate::adopt::{Searched, search_table};
 use crate::eps::{coarse_eps, fine_eps, next_eps};
 use crate::reduce::start_prices;
-use crate::rules::{attempt_ahead, attempt_from_start, attempt_of_first, attempt_with_ties};
+use crate::rules::{
+    are_apart, attempt_ahead, attempt_of_first, attempt_of_held, attempt_with_ties, may_hold_first,
+};
 use crate::tuning::{PACING, SAMPLED_ROWS};
 use auc_claim::Reason;
 use auc_market::{Attempt, Ending, Halt, Holdings, LAST_EPS, Market, Pace, Watch};
 use auc_rows::FlatRows;
-use std::alloc::Global;
+use std::alloc::{AllocError, Global};
 
 /// How the last phase has ended, and the market that it leaves.
 #[derive(Drop)]
@@ -130,10 +132,12 @@ fn play_phases<W: Watch>(
     }
 }
 
-/// The phases of a run with as many objects as persons. Where there are ties, the last phase is tried first.
+/// The phases of a run with as many objects as persons. Where there are ties, the last phase is tried first, unless it
+/// was tried before.
 fn play_square<W: Watch>(
     market: &mut Market<'_>,
     rows: &FlatRows,
+    is_tried: bool,
     bids: u64,
     pace: &mut Pace,
     watch: &mut W,
@@ -146,7 +150,7 @@ fn play_square<W: Watch>(
     ensures halt { IfErr result (λ h. IsHalt rows.now h × (W.has_stopped watch.new ≡ W.has_stopped watch.old)) }
 {
     let sample = market.sample(SAMPLED_ROWS);
-    let attempt = attempt_with_ties(rows, sample.has_ties);
+    let attempt = attempt_with_ties(rows, sample.has_ties && !is_tried);
     let tied = play_anew(market, LAST_EPS, bids, attempt, pace, watch)?;
     market.law();
     if let Some(ending) = tied {
@@ -187,8 +191,8 @@ fn run_wide<W: Watch>(
     })
 }
 
-/// A run from the holdings of a market at the last eps. From a start the last phase is tried first, and persons keep
-/// what they hold in it. A full table is searched as a table before all other phases.
+/// A run from the holdings of a market at the last eps. Where it begins with a start, or persons hold objects, the last
+/// phase is tried first, in which they keep these. A full table is searched as a table before all other phases.
 pub(crate) fn run<W: Watch>(
     alloc: Global,
     rows: &FlatRows,
@@ -209,7 +213,8 @@ pub(crate) fn run<W: Watch>(
     }
     let mut market = market;
     let mut pace = Pace::new(rows, PACING);
-    let attempt = attempt_from_start(rows, !start.is_empty());
+    let attempt = attempt_of_held(rows, market.held(), !start.is_empty());
+    let is_tried = attempt.bids > 0 && start.is_empty();
     if let Some(ending) = market.try_phase(bids, attempt, &mut pace, watch)? {
         market.law();
         return Ok(Outcome {
@@ -222,7 +227,7 @@ pub(crate) fn run<W: Watch>(
         Searched::Ended => return Ok(Outcome::stopped(market)),
         Searched::Nothing => {}
     }
-    let ending = play_square(&mut market, rows, bids, &mut pace, watch)?;
+    let ending = play_square(&mut market, rows, is_tried, bids, &mut pace, watch)?;
     Ok(Outcome {
         ending,
         holdings: market.into_holdings(ending),
@@ -257,6 +262,27 @@ fn run_from_zero<W: Watch>(
     })
 }
 
+/// The market of a run without a start, at reduced columns. Where best arcs lie far enough apart, persons hold what is
+/// best for them.
+fn first_market(alloc: Global, rows: &FlatRows) -> Result<Market<'_>, AllocError>
+    requires arcs { EachHasArc rows.now }
+    ensures begins { IfOk result (Begins rows.now) }
+    ensures start { IfOk result (λ m. IsStart rows.now (pos 1) m.prices) }
+{
+    let prices = start_prices(alloc, rows)?;
+    let market = Market::new(alloc, rows, prices)?;
+    if rows.persons() != rows.objects() {
+        return Ok(market);
+    }
+    if !may_hold_first(rows) || !are_apart(market.sample(SAMPLED_ROWS)) {
+        return Ok(market);
+    }
+    drop(market);
+    let prices = start_prices(alloc, rows)?;
+    let market = Market::from_start(alloc, rows, prices.as_slice())?;
+    Ok(market)
+}
+
 /// A run without a start. Where the greatest price ends it, a phase from prices of 0 takes its place: in the phases
 /// before, prices may have risen higher than they have to.
 pub(crate) fn run_first<W: Watch>(
@@ -273,8 +299,7 @@ pub(crate) fn run_first<W: Watch>(
     ensures asked { IfOk result (λ o. W.was_asked watch.new ≡ true) }
     ensures halt { IfErr result (λ h. IsHalt rows.now h × (W.has_stopped watch.new ≡ W.has_stopped watch.old)) }
 {
-    let prices = start_prices(alloc, rows)?;
-    let market = Market::new(alloc, rows, prices)?;
+    let market = first_market(alloc, rows)?;
     let outcome = run(alloc, rows, bids, market, &[], watch)?;
     if outcome.ending != Ending::Stopped(Reason::Ceiling) {
         return Ok(outcome);

@@ -16,6 +16,10 @@ pub struct Sample {
     pub spread: i64,
     /// Whether most persons have two best arcs of the same value.
     pub has_ties: bool,
+    /// The number of persons it is of,
+    pub persons: u32,
+    /// and of those whose best arc isn't of the least value of all.
+    pub above: u32,
 }
 
 /// The least value of a row, the least of the other arcs, and the greatest.
@@ -55,6 +59,8 @@ impl Holdings {
         let mut sum = 0i64;
         let mut scanned = 0i64;
         let mut ties = 0i64;
+        let mut lowest = i64::MAX;
+        let mut above: u32 = 0;
         for person in 0..rows.persons() {
             if person % apart != 0 {
                 continue;
@@ -65,11 +71,20 @@ impl Holdings {
             if ends.least == ends.second {
                 ties = ties.saturating_add(1);
             }
+            // All before are above a new lowest value.
+            if ends.least < lowest {
+                lowest = ends.least;
+                above = u32::try_from(scanned).unwrap_or(0).saturating_sub(1);
+            } else if ends.least > lowest {
+                above = above.saturating_add(1);
+            }
         }
         let mean = sum.checked_div(scanned).unwrap_or(0);
         Sample {
             spread: mean.min(scaled_spread(rows)).max(LAST_EPS),
             has_ties: ties > scanned / 2,
+            above,
+            persons: u32::try_from(scanned).unwrap_or(0),
         }
     }
 }

@@ -40,8 +40,20 @@ impl Holdings {
     {
         let scale = rows.scale();
         let mut least = i64::MAX;
+        let mut best = NOBODY;
+        let mut at: u32 = 0;
+        let mut best_at: u32 = 0;
         for arc in rows.row(person) {
-            least = least.min(wrapping_value_of(scale, *arc, start));
+            let value = wrapping_value_of(scale, *arc, start);
+            if value < least {
+                least = value;
+                best = arc.object;
+                best_at = at;
+            }
+            at = at.saturating_add(1);
+        }
+        if self.holder_of(best) == NOBODY {
+            return best_at;
         }
         let most = least.saturating_add(eps);
         let mut place: u32 = 0;

@@ -1,12 +1,6 @@
-use Rattle.std.proofs.Common.{inr, pos, refl, replicate, rules}
+use Rattle.std.proofs.Common.{pos, replicate, rules}
 use Rattle.auc_direct.proofs.Running.{zero_start}
 use Rattle.auc_direct.proofs.run.run_first.Goals as goal
-
-pub new-requires-clause-start : goal.new-requires-clause-start
-new-requires-clause-start g c = c.in_ok-prices.ensures (pos 1) (inr refl)
-
-pub returns-in_err-prices-clause-outcome : goal.returns-in_err-prices-clause-outcome
-returns-in_err-prices-clause-outcome g c = (replicate c.args.rows.now.objects (pos 0), zero_start c.args.rows.now, search rules)
 
 pub returns-in_err-market-clause-outcome : goal.returns-in_err-market-clause-outcome
 returns-in_err-market-clause-outcome g c = (replicate c.args.rows.now.objects (pos 0), zero_start c.args.rows.now, search rules)
@@ -15,4 +9,4 @@ pub returns-in_err-outcome-clause-outcome : goal.returns-in_err-outcome-clause-o
 returns-in_err-outcome-clause-outcome g c = (replicate c.args.rows.now.objects (pos 0), zero_start c.args.rows.now, search rules)
 
 pub returns-then-ne-clause-outcome : goal.returns-then-ne-clause-outcome
-returns-then-ne-clause-outcome g c = (c.in_ok-market.market.prices, rw c.in_ok-market.ensures.prices (c.in_ok-prices.ensures (pos 1) (inr refl)), c.in_ok-outcome.ensures.outcome)
+returns-then-ne-clause-outcome g c = (c.in_ok-market.market.prices, c.in_ok-market.ensures.start, c.in_ok-outcome.ensures.outcome)

@@ -12,7 +12,6 @@ use Rattle.auc_call.specs.declared.solved.Solved.TheVariants.{Optimal, Infeasibl
 use Rattle.auc_call.specs.Drivers.{IsLimitedSolve}
 use Rattle.auc_call.specs.Memory.{AreAt, Memory, memory}
 use Rattle.auc_call.specs.Solving.{IsSolved}
-use Rattle.auc_dense.specs.Quick.{IsQuickly}
 use Rattle.auc_dense.specs.TableSolving.{AreNamed, IsTableSolved, named}
 use Rattle.auc_call.proofs.PickLaws.{at_person}
 use Rattle.auc_call.proofs.PlaceLaws.{no_pick}
@@ -32,11 +31,3 @@ pub table_solved : (p : Problem) (start : List ℤ) (bids : ℕ) (stopped : Bool
 table_solved p start bids stopped before after (Optimal cost) h limited = (record { places = after.choice; objects_are = refl; holds = h.0 }, h.1)
 table_solved p start bids stopped before after (Infeasible persons objects) h limited = h
 table_solved p start bids stopped before after (Bracket reason lower cost) h limited = (record { places = after.choice; objects_are = refl; holds = (h.0, limited) }, h.1)
-
--- and so it is of what a quick solve has found
-pub quickly_solved : (p : Problem) (start : List ℤ) (bids : ℕ) (stopped : Bool) (before : Memory) (choice : List ℕ) (prices : List ℤ) (solved : Solved) → IsQuickly p stopped choice prices solved
-    → IsTableSolved p start bids stopped before (memory choice prices before.set) solved
-quickly_solved p start bids stopped before choice prices (Optimal cost) h = (h, refl)
-quickly_solved p start bids stopped before choice prices (Infeasible persons objects) h = absurd h
-quickly_solved p start bids stopped before choice prices (Bracket reason lower cost) h =
-    (record { places = h.0.places; objects_are = h.0.objects_are; holds = (h.0.holds, inl (h.1, h.2)) }, refl)

@@ -1,23 +1,26 @@
--- What a quick solve of a table comes to.
-use Rattle.std.specs.Prelude.{Bool, true, ◌≡◌, ℕ, ℤ, List, Option, Some, None, Result, Ok, Err}
-use Rattle.std.specs.declared.alloc.AllocError.{AllocError}
-use Rattle.auc_graph.specs.Problem.{Problem}
-use Rattle.auc_claim.specs.declared.reason.Reason.{Reason}
-use Rattle.auc_call.specs.declared.solved.Solved.{Solved}
-use Rattle.auc_call.specs.declared.solved.Solved.TheVariants.{Optimal, Infeasible, Bracket}
-use Rattle.auc_call.specs.Shown.{IsBracketAt, IsLeastAt}
-use Rattle.auc_dense.specs.Naming.{ByObjects}
+-- What is found of a table without its arcs.
+use Rattle.std.specs.Prelude.{Bool, true, ◌≡◌, ◌⊎◌, ◌≤◌, ℕ, ℤ, List, [], length}
+use Rattle.auc_table.specs.declared.table.Table.{Table}
+use Rattle.auc_dense.specs.declared.quick.Quick.{Quick}
+use Rattle.auc_dense.specs.declared.quick.Quick.TheVariants.{Assigned, Short}
+use Rattle.auc_dense.specs.Bidding.{HaveBid}
+use Rattle.auc_dense.specs.Shortage.{ShowShortage}
+use Rattle.auc_dense.specs.Tried.{IsShown}
 
--- by objects, a least assignment of this cost; or a bracket, after the watch has said no
-abbrev pub IsQuickly : Problem → Bool → List ℕ → List ℤ → Solved → Type 0
-IsQuickly p stopped choice prices (Optimal cost) = ByObjects p.arcs choice (λ places. IsLeastAt p places prices cost)
-IsQuickly p stopped choice prices (Infeasible persons objects) = ⊥
-IsQuickly p stopped choice prices (Bracket reason lower cost) =
-    ByObjects p.arcs choice (λ places. IsBracketAt p places prices reason lower cost)
-    × (stopped ≡ true) × (reason ≡ Reason.Bids)
+-- an assignment at these prices, a least one or, where that may be, one with a bound; or persons who know too few
+-- objects
+abbrev pub IsQuick : Table → ℤ → Bool → List ℤ → Quick → Type 0
+IsQuick t gap may prices (Assigned found) =
+    (found.prices.items ≡ prices)
+    × IsShown t.persons t.objects t.costs.now t.stride gap may prices found.picks.items found.solved
+IsQuick t gap may prices (Short short) =
+    (length short.persons.items ≤ t.persons)
+    × ShowShortage t.persons t.objects t.costs.now t.stride gap short.persons.items short.objects.items
 
--- one of these; or nothing was written
-abbrev pub IsQuick : Problem → Bool → List ℕ → List ℕ → List ℤ → List ℤ → Result (Option Solved) AllocError → Type 0
-IsQuick p stopped choice_before choice prices_before prices (Ok (Some solved)) = IsQuickly p stopped choice prices solved
-IsQuick p stopped choice_before choice prices_before prices (Ok None) = (choice ≡ choice_before) × (prices ≡ prices_before)
-IsQuick p stopped choice_before choice prices_before prices (Err e) = (choice ≡ choice_before) × (prices ≡ prices_before)
+-- A bound is left only after the watch has said no, or after so many bids from prices of 0.
+pub record IsFound (t : Table) (gap : ℤ) (start : List ℤ) (bids : ℕ) (stopped : Bool) (quick : Quick) : Type 0 where
+  pub may : Bool
+  pub prices : List ℤ
+  pub quick_is : IsQuick t gap may prices quick
+  pub cause : may ≡ true
+      → (stopped ≡ true) ⊎ ((start ≡ []) × HaveBid t.persons t.objects t.costs.now t.stride gap bids prices)

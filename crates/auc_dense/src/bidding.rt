@@ -141,9 +141,9 @@ fn next_turn(persons: u32, displaced: u32, begun: u32) -> Option<Turn>
 
 /// A phase between two bids. The persons from `begun` on haven't bid yet. The last bid has displaced one, or nobody.
 #[derive(Drop)]
-struct Phase {
-    prices: Vec<i64>,
-    holders: Vec<u32>,
+pub(crate) struct Phase {
+    pub(crate) prices: Vec<i64>,
+    pub(crate) holders: Vec<u32>,
     displaced: u32,
     begun: u32,
 }
@@ -251,19 +251,19 @@ fn has_two_costs(table: &Table, gap: i64) -> bool
     }
 }
 
-/// The prices after exactly so many bids from prices 0. None where all costs are the same, where the persons have
-/// objects before so many bids are made, or where a bid can't be made.
+/// A phase after exactly so many bids from prices 0. None where all costs are the same, where the persons have objects
+/// before so many bids are made, or where a bid can't be made.
 pub(crate) fn bid_out(
     alloc: Global,
     table: &Table,
     gap: i64,
     bids: u64,
-) -> Result<Option<Vec<i64>>, AllocError>
+) -> Result<Option<Phase>, AllocError>
     requires table { IsGiven table.now }
     requires problem { IsProblem (problem table.now.persons table.now.objects
         (table_arcs table.now.objects table.now.costs.now table.now.stride gap table.now.persons)) }
-    ensures { IfOk result (λ o. IfSome o (λ prices. HaveBid table.now.persons table.now.objects table.now.costs.now
-        table.now.stride gap bids prices.items)) }
+    ensures { IfOk result (λ o. IfSome o (λ phase. HaveBid table.now.persons table.now.objects table.now.costs.now
+        table.now.stride gap bids phase.prices.items)) }
 {
     if !has_two_costs(table, gap) {
         return Ok(None);
@@ -274,5 +274,5 @@ pub(crate) fn bid_out(
             return Ok(None);
         }
     }
-    Ok(Some(phase.prices))
+    Ok(Some(phase))
 }

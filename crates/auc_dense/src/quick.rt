@@ -1,41 +1,22 @@
-//! A solve of a table by a search over the table itself, of which no arcs are made.
+//! What is found of a table by a search over the table itself, of which no arcs are made.
 
-ghost use Rattle.std.specs.Prelude.{◌≡◌, ◌≤◌, ◌+◌, pos, ◌≤ℤ◌, None, All, IfOk, IfSome, length, map};
+ghost use Rattle.std.specs.Prelude.{◌≡◌, ℕ, ℤ, List, [], None, IfOk, IfSome, true, length};
 ghost use Rattle.auc_graph.specs.Problem.{IsProblem};
 ghost use Rattle.auc_graph.specs.Reading.{problem};
-ghost use Rattle.auc_call.specs.Drivers.{IsAskedSolve};
 ghost use Rattle.auc_call.specs.Start.{start_fault};
-ghost use Rattle.auc_dense.specs.Quick.{IsQuick};
+ghost use Rattle.auc_dense.specs.Bidding.{HaveBid};
+ghost use Rattle.auc_dense.specs.Quick.{IsFound, IsQuick};
 ghost use Rattle.auc_dense.specs.Table.{IsTable, table_arcs};
-ghost use Rattle.auc_dense.specs.Tried.{IsGiven, IsPlainPrice, IsShown, scaled};
+ghost use Rattle.auc_dense.specs.Tried.{IsGiven, IsShown};
 
+use crate::bidding::{Phase, bid_out};
 use crate::bounding::{Bounded, bound};
+use crate::shortage::{Shortage, find_shortage};
 use crate::trying::{is_whole, scale_of, try_out};
 use auc_call::{Pausing, Run, Solved, Watch, ask_after, prices_fault};
 use auc_claim::{Pick, Reason, cost_of};
-use auc_table::{Proposal, Table, propose};
+use auc_table::{Proposal, Table, complete, propose};
 use std::alloc::{AllocError, Global};
-
-/// Writes the object of each pick.
-fn put_objects(picks: &[Pick], choice: &mut [u32])
-    requires { length choice.old ≡ length picks.now }
-    ensures { choice.new ≡ map (λ pick. pick.object) picks.now }
-{
-    for person in 0..picks.len() {
-        choice[person] = picks[person].object;
-    }
-}
-
-/// Writes each price, scaled.
-fn put_prices(scale: i64, plain: &[i64], prices: &mut [i64])
-    requires plain { All (IsPlainPrice scale) plain.now }
-    requires len { length prices.old ≡ length plain.now }
-    ensures { prices.new ≡ map (scaled scale) plain.now }
-{
-    for object in 0..plain.len() {
-        prices[object] = scale * plain[object];
-    }
-}
 
 /// Picks of a table, and what they show with the prices of a proposal.
 #[derive(Drop)]
@@ -44,17 +25,33 @@ struct Shown {
     solved: Solved,
 }
 
-/// What a proposal shows: a least assignment; or where the search was ended, an assignment and a bound.
+/// An assignment of a table at prices in its costs, and what it is.
+#[derive(Drop)]
+pub(crate) struct Assignment {
+    pub(crate) picks: Vec<Pick>,
+    pub(crate) prices: Vec<i64>,
+    pub(crate) solved: Solved,
+}
+
+/// What is found of a table without its arcs.
+#[derive(Drop)]
+pub(crate) enum Quick {
+    Assigned(Assignment),
+    /// There is no assignment.
+    Short(Shortage),
+}
+
+/// What a proposal shows: a least assignment; or where that may be, an assignment and a bound.
 fn show(
     alloc: Global,
     table: &Table,
     gap: i64,
     proposal: &Proposal,
-    is_ended: bool,
+    may_bound: bool,
 ) -> Result<Option<Shown>, AllocError>
     requires table { IsGiven table.now }
     ensures { IfOk result (λ o. IfSome o (λ shown. IsShown table.now.persons table.now.objects table.now.costs.now
-        table.now.stride gap is_ended proposal.now.prices.items shown.picks.items shown.solved)) }
+        table.now.stride gap may_bound proposal.now.prices.items shown.picks.items shown.solved)) }
 {
     if !is_whole(table, proposal) {
         return Ok(None);
@@ -66,7 +63,7 @@ fn show(
         let solved = Solved::Optimal { cost };
         return Ok(Some(Shown { picks, solved }));
     }
-    if !is_ended {
+    if !may_bound {
         return Ok(None);
     }
     let Some(bounded) = bound(alloc, table, gap, proposal)? else {
@@ -85,30 +82,104 @@ fn show(
     Ok(Some(Shown { picks, solved }))
 }
 
-/// Solves a table of so many arcs, where the start has no fault and the search comes to a least assignment soon enough.
-/// Where the watch ends it, it gives an assignment and a bound, unless there are gaps in the way. Else nothing is
-/// written.
-pub(crate) fn solve_quickly<W: Watch>(
+/// The same, or that there is no assignment.
+fn conclude(
+    alloc: Global,
+    table: &Table,
+    gap: i64,
+    proposal: Proposal,
+    may_bound: bool,
+) -> Result<Option<Quick>, AllocError>
+    requires table { IsGiven table.now }
+    ensures { IfOk result (λ o. IfSome o (IsQuick table.now gap may_bound proposal.prices.items)) }
+{
+    if let Some(shown) = show(alloc, table, gap, &proposal, may_bound)? {
+        let Proposal { prices, .. } = proposal;
+        let Shown { picks, solved } = shown;
+        return Ok(Some(Quick::Assigned(Assignment {
+            picks,
+            prices,
+            solved,
+        })));
+    }
+    match find_shortage(alloc, table, gap, &proposal)? {
+        Some(short) => Ok(Some(Quick::Short(short))),
+        None => Ok(None),
+    }
+}
+
+/// The object of each person; the greatest number where the person holds none.
+fn objects_of(alloc: Global, persons: u32, holders: &[u32]) -> Result<Vec<u32>, AllocError> {
+    let mut objects = vec![in alloc; u32::MAX; persons as usize]?;
+    for object in 0..holders.len() {
+        let holder = holders[object] as usize;
+        if holder < objects.len() {
+            objects[holder] = u32::try_from(object).unwrap_or(u32::MAX);
+        }
+    }
+    Ok(objects)
+}
+
+/// What a table comes to by so few bids: an assignment, which is filled up, and a bound by the prices after them; or
+/// that there is none.
+fn bid_quickly(
+    alloc: Global,
+    table: &Table,
+    gap: i64,
+    gaps: Option<i64>,
+    bids: u64,
+) -> Result<Option<Quick>, AllocError>
+    requires table { IsGiven table.now }
+    requires problem { IsProblem (problem table.now.persons table.now.objects
+        (table_arcs table.now.objects table.now.costs.now table.now.stride gap table.now.persons)) }
+    ensures { IfOk result (λ o. IfSome o (λ quick. (prices : List ℤ) × IsQuick table.now gap true prices quick
+        × HaveBid table.now.persons table.now.objects table.now.costs.now table.now.stride gap bids prices)) }
+{
+    let Some(phase) = bid_out(alloc, table, gap, bids)? else {
+        return Ok(None);
+    };
+    let Phase {
+        prices,
+        holders,
+        ..
+    } = phase;
+    let proposal = Proposal {
+        objects: objects_of(alloc, table.persons, holders.as_slice())?,
+        holders,
+        prices: prices.as_slice().to_vec(alloc)?,
+    };
+    let Proposal {
+        objects,
+        holders,
+        ..
+    } = complete(alloc, table, gaps, proposal)?;
+    let filled = Proposal {
+        objects,
+        holders,
+        prices,
+    };
+    conclude(alloc, table, gap, filled, true)
+}
+
+/// What is found of a table of so many arcs, where the start has no fault: a least assignment, if the search comes to
+/// it soon enough, or that there is none. Where the watch ends it, or there are too few bids and no start, an assignment
+/// and a bound. The watch is asked. None where the arcs have to be looked at.
+pub(crate) fn search_quickly<W: Watch>(
     alloc: Global,
     table: &Table,
     gap: i64,
     count: usize,
     run: &mut Run<'_, W>,
-    choice: &mut [u32],
-    prices: &mut [i64],
-) -> Result<Option<Solved>, AllocError>
+) -> Result<Option<Quick>, AllocError>
     requires problem { IsProblem (problem table.now.persons table.now.objects
         (table_arcs table.now.objects table.now.costs.now table.now.stride gap table.now.persons)) }
     requires table { IsTable table.now.persons table.now.objects table.now.stride (length table.now.costs.now) }
-    requires choice { length choice.old ≡ table.now.persons }
-    requires prices { length prices.old ≡ table.now.objects }
-    ensures start { IfOk result (λ o. IfSome o (λ solved. start_fault (problem table.now.persons table.now.objects
+    ensures start { IfOk result (λ o. IfSome o (λ quick. start_fault (problem table.now.persons table.now.objects
         (table_arcs table.now.objects table.now.costs.now table.now.stride gap table.now.persons))
         run.old.start.now ≡ None)) }
-    ensures quick { IsQuick (problem table.now.persons table.now.objects
-        (table_arcs table.now.objects table.now.costs.now table.now.stride gap table.now.persons))
-        (W.has_stopped run.new.watch) choice.old choice.new prices.old prices.new result }
-    ensures asked { IfOk result (λ o. IfSome o (IsAskedSolve (W.was_asked run.new.watch))) }
+    ensures found { IfOk result (λ o. IfSome o
+        (IsFound table.now gap run.old.start.now run.old.bids (W.has_stopped run.new.watch))) }
+    ensures asked { IfOk result (λ o. IfSome o (λ quick. W.was_asked run.new.watch ≡ true)) }
     ensures kept { (run.new.start.now ≡ run.old.start.now) × (run.new.bids ≡ run.old.bids) }
 {
     let Table {
@@ -126,15 +197,16 @@ pub(crate) fn solve_quickly<W: Watch>(
     let scale = scale_of(persons);
     let mut pausing = Pausing::new(objects, &mut run.watch);
     let found = propose(alloc, table, gaps, run.start, scale, scans, &mut pausing)?;
-    let Some(found) = found else {
-        return Ok(None);
-    };
     ask_after(&mut run.watch, persons);
-    let is_ended = run.watch.has_said_no();
-    let Some(shown) = show(alloc, table, gap, &found, is_ended)? else {
+    if let Some(found) = found {
+        let is_ended = run.watch.has_said_no();
+        return conclude(alloc, table, gap, found, is_ended);
+    }
+    if !run.start.is_empty() {
+        return Ok(None);
+    }
+    let Some(quick) = bid_quickly(alloc, table, gap, gaps, run.bids)? else {
         return Ok(None);
     };
-    put_objects(shown.picks.as_slice(), choice);
-    put_prices(scale, found.prices.as_slice(), prices);
-    Ok(Some(shown.solved))
+    Ok(Some(quick))
 }

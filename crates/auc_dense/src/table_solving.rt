@@ -9,8 +9,10 @@ ghost use Rattle.auc_dense.specs.Given.{IsGivenTable, tabled_problem};
 ghost use Rattle.auc_dense.specs.TableSolving.{IsRefused, SolvesArcs, SolvesTable};
 
 use crate::given::GivenTable;
+use crate::handing::hand_assignment;
 use crate::naming::name_objects;
-use crate::quick::solve_quickly;
+use crate::quick::{Quick, search_quickly};
+use crate::shortage::hand_shortage;
 use crate::table::{arcs_of_table, count_arcs, is_table};
 use auc_call::{Driver, Failed, Run, Solved, Watch, solve_problem};
 use auc_graph::{ArcList, list_fault, objects_or};
@@ -117,9 +119,13 @@ pub(crate) fn solve_table_into<W: Watch>(
         stride,
         costs,
     };
-    let found = solve_quickly(alloc, &table, gap, count, run, choice, prices)?;
-    if let Some(solved) = found {
-        return Ok(solved);
+    match search_quickly(alloc, &table, gap, count, run)? {
+        Some(Quick::Assigned(found)) => {
+            hand_assignment(persons, &found, choice, prices);
+            return Ok(found.solved);
+        }
+        Some(Quick::Short(short)) => return Ok(hand_shortage(&short, choice, set)),
+        None => {}
     }
     let problem = problem_of_table(alloc, given, count)?;
     solve_arcs(alloc, &problem, run, choice, prices, set)

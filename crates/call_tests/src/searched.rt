@@ -66,7 +66,7 @@ fn completed(rt: &HostRuntime, costs: &[i64], gap: Option<i64>, price: i64) -> O
         prices: vec![in rt.alloc(); price, 0, 0].ok()?,
     };
     let found = complete(rt.alloc(), &table, gap, proposal).ok()?;
-    if found.prices.as_slice() != [price, 0, 0] {
+    if found.prices.as_slice() != [price, 0, 0].as_slice() {
         return None;
     }
     objects_of(&found)

@@ -114,6 +114,34 @@ fn bracket_and_start(rt: HostRuntime) {
     );
 }
 
+/// Two bids from prices of 0: the first person's for the first object is 5, since the second costs 4 more, and so is the
+/// second person's, for the second object. All want the first one then, at 1 + 5, so no assignment costs less than
+/// 3 * 6 - 10.
+#[test]
+fn by_few_bids(rt: HostRuntime) {
+    let given = GivenTable {
+        persons: 3,
+        objects: 3,
+        costs: &[1, 5, GAP, 1, 2, 7, 1, 4, GAP],
+        stride: 3,
+        gap: GAP,
+    };
+    let (mut choice, mut prices, mut objects, mut found) = ([7; 3], [7; 3], [7; 3], NOTHING);
+    let status = solve_table_call(
+        rt.alloc(),
+        &given,
+        &mut run_of(&[], 2),
+        &mut choice,
+        &mut prices,
+        &mut objects,
+        &mut found,
+    );
+    assert_same(&rt, (status, found.kind, found.lower), (BRACKET, 1, 8));
+    assert_same(&rt, (prices[0], prices[1], prices[2]), (20, 20, 0));
+    assert_same(&rt, (choice[1], objects[0]), (2, 7));
+    assert!(rt; 12 <= found.cost && found.cost <= 13);
+}
+
 /// Both have arcs to the second object alone.
 #[test]
 fn infeasible(rt: HostRuntime) {

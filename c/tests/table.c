@@ -235,10 +235,63 @@ static int passes(const given *g, const told *t) {
            memcmp(t->hall, empty.hall, sizeof empty.hall) == 0 && memcmp(&t->found, &empty.found, sizeof empty.found) == 0;
 }
 
-/* Of several least assignments, and of prices, a table's answer may have others, and the least one where few bids leave a list a bracket. */
+/* Whether the checker lets persons who know too few objects pass, and nothing else was written. */
+static int passes_hall(const given *g, const told *t) {
+    uint32_t objects = g->objects ? g->objects : g->persons, count = list_arcs(g);
+    told rest = *t;
+    sigdorf_found found;
+    memset(rest.choice, 0x55, t->found.persons * sizeof *rest.choice);
+    memset(rest.hall, 0x55, t->found.objects * sizeof *rest.hall);
+    memset(&rest.found.persons, 0x55, sizeof rest.found.persons);
+    memset(&rest.found.objects, 0x55, sizeof rest.found.objects);
+    told empty;
+    memset(&empty, 0x55, sizeof empty);
+    empty.status = t->status;
+    return t->found.persons <= g->persons && t->found.objects < t->found.persons && memcmp(&rest, &empty, sizeof rest) == 0 &&
+           sigdorf_check_hall(g->persons, objects, arcs, count, t->choice, t->found.persons, t->hall, t->found.objects, &found) == SIGDORF_OPTIMAL;
+}
+
+/* What the prices bound costs by, in scaled costs: the best of each row with its price, less all prices. */
+static __int128 bound_of(const given *g, const told *t, uint32_t objects) {
+    __int128 bound = 0, scale = g->persons + 1;
+    for (uint32_t j = 0; j < objects; j++)
+        bound -= t->prices[j];
+    for (uint32_t i = 0; i < g->persons; i++) {
+        __int128 best = (__int128)1 << 100;
+        for (uint32_t j = 0; j < objects; j++) {
+            int64_t cost = g->costs[i * g->stride + j];
+            if (cost != g->none && scale * cost + t->prices[j] < best)
+                best = scale * cost + t->prices[j];
+        }
+        bound += best;
+    }
+    return bound;
+}
+
+/* Whether a bracket is an assignment and what its prices bound, rounded up. */
+static int passes_bracket(const given *g, const told *t) {
+    uint32_t objects = g->objects ? g->objects : g->persons, taken = 0;
+    int64_t sum = 0;
+    for (uint32_t i = 0; i < g->persons; i++) {
+        if (t->choice[i] >= objects || taken >> t->choice[i] & 1 || g->costs[i * g->stride + t->choice[i]] == g->none)
+            return 0;
+        taken |= 1u << t->choice[i];
+        sum += g->costs[i * g->stride + t->choice[i]];
+    }
+    __int128 over = (__int128)t->found.lower * (g->persons + 1) - bound_of(g, t, objects);
+    return sum == t->found.cost && t->found.lower <= sum && t->found.kind == SIGDORF_BIDS && 0 <= over && over <= g->persons;
+}
+
+/* Of several least assignments, prices and Hall sets, and of brackets, a table's answer may have others, and the least one where few bids
+ * leave a list a bracket. */
 static int agrees(const given *g, const told *table, const told *list) {
     if (memcmp(table, list, sizeof *table) == 0)
         return 1;
+    if (table->status == SIGDORF_INFEASIBLE)
+        return list->status == SIGDORF_INFEASIBLE && passes_hall(g, table);
+    if (table->status == SIGDORF_BRACKET)
+        return passes_bracket(g, table) && (list->status == SIGDORF_BRACKET || (list->status == SIGDORF_OPTIMAL &&
+                                            table->found.lower <= list->found.cost && list->found.cost <= table->found.cost));
     if (table->status != SIGDORF_OPTIMAL || !passes(g, table))
         return 0;
     return list->status == SIGDORF_OPTIMAL ? table->found.cost == list->found.cost : list->status == SIGDORF_BRACKET;

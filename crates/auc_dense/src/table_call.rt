@@ -22,19 +22,24 @@ use std::alloc::Global;
 /// objects. A stride below that number, persons * objects of 2^32 and more, and a row that doesn't lie within `costs`,
 /// are [`auc_call::SIZES`].
 ///
-/// A search over the table comes first ([`auc_table::propose`]), in which to look over a row counts as a bid, and its
-/// answer is taken where one pass over the table shows that it is least. With as many objects as persons it starts from
-/// `start`, where these prices give a greater lower bound than prices of 0. That takes O(persons^2 * objects) time at
-/// most, and at most 52 bytes of memory an object and 40 a person. After more bids, and where there is no assignment,
-/// the arcs are written out and solved: that takes the time and memory of [`auc_call::solve_call`], but for its copy of
-/// the arcs, which is the only one here: 16 bytes for each entry that is no gap.
+/// A search over the table comes first ([`auc_table::propose`]), in which to look over a row counts as a bid. Its answer
+/// is taken where one pass over the table shows that it is least, or that some persons know too few objects. With as
+/// many objects as persons it starts from `start`, where these prices give a greater lower bound than prices of 0. That
+/// takes O(persons^2 * objects) time at most, and at most 52 bytes of memory an object and 40 a person.
+///
+/// Where there are too few bids for the search, and no start, exactly so many are made from prices of 0, at one unit of
+/// cost. Their prices give the bound, and the assignment is filled up by a few passes over the table and by paths.
+///
+/// With a start and too few bids, or where these give each person an object, the arcs are written out and solved. That
+/// takes the time and memory of [`auc_call::solve_call`], but for its copy of the arcs, which is the only one here: 16
+/// bytes for each entry that is no gap.
 ///
 /// `run.watch` is asked within the search after about as many entries as the direct solver scans between two questions
 /// ([`auc_call::Pausing`]), at its end, and as [`auc_call::solve_call`] says while the arcs are solved; not while the
-/// entries are counted, a proposal is tried or the arcs are written out. So it is asked once at least, but for where
-/// there is no assignment: clause `asked`. After a no within the search the status is [`auc_call::BRACKET`], with the
-/// kind of a limit on bids, and the assignment and the bound are those to which the search had come, filled up by a few
-/// passes over the table. Where gaps are in the way the arcs are written out all the same.
+/// entries are counted, a proposal is tried, bids are made without a search or the arcs are written out. So it is asked
+/// once at least, but for where there is no assignment: clause `asked`. After a no within the search the status is
+/// [`auc_call::BRACKET`], with the kind of a limit on bids, or [`auc_call::INFEASIBLE`]. The assignment and the bound
+/// are those to which the search had come, filled up in the same way.
 pub fn solve_table_call<W: Watch>(
     alloc: Global,
     given: &GivenTable,

@@ -162,8 +162,8 @@ fn bid_quickly(
 }
 
 /// What is found of a table of so many arcs, where the start has no fault: a least assignment, if the search comes to
-/// it soon enough, or that there is none. Where the watch ends it, or there are too few bids and no start, an assignment
-/// and a bound. The watch is asked. None where the arcs have to be looked at.
+/// it soon enough, or that there is none. Where the watch ends it, or there are too few bids and no start, an
+/// assignment and a bound. The watch is asked. None where the arcs have to be looked at.
 pub(crate) fn search_quickly<W: Watch>(
     alloc: Global,
     table: &Table,

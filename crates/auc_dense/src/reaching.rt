@@ -1,7 +1,7 @@
 //! Which persons alternating paths lead to, from one for whom a choice has nothing.
 //!
-//! A person knows the objects of the entries that are no gap. A path goes from a person to an object that the person
-//! knows, and from there to the person who has it and knows it. Nothing is proved of the search.
+//! A person may have the objects of the entries that are no gap. A path goes from a person to an object that the person
+//! may have, and from there to its holder, if that person may have it. Nothing is proved of the search.
 
 ghost use Rattle.std.specs.Prelude.{◌<◌};
 ghost use Rattle.auc_dense.specs.Tried.{IsGiven};
@@ -41,7 +41,7 @@ impl Reached {
         Ok(true)
     }
 
-    /// Reaches the holders of the objects that the person of a row knows, and marks these as seen. False where nobody
+    /// Reaches the holders of the objects that a row's person may have, and marks these as seen. False where nobody
     /// holds one of them.
     fn reach_holders(
         &mut self,
@@ -64,7 +64,7 @@ impl Reached {
     }
 }
 
-/// The object that a choice gives a person, where the person knows it.
+/// The object that a choice gives a person, where the person may have it.
 fn object_of(table: &Table, gap: i64, choice: &[u32], person: u32) -> Option<u32>
     requires table { IsGiven table.now }
     requires person { person < table.now.persons }
@@ -77,7 +77,7 @@ fn object_of(table: &Table, gap: i64, choice: &[u32], person: u32) -> Option<u32
     }
 }
 
-/// The first person who has no object that the person knows.
+/// The first person who has no object that the person may have.
 fn first_without(table: &Table, gap: i64, choice: &[u32]) -> Option<u32>
     requires { IsGiven table.now }
 {
@@ -89,7 +89,7 @@ fn first_without(table: &Table, gap: i64, choice: &[u32]) -> Option<u32>
     None
 }
 
-/// For each object the person who has it and knows it; a number above all persons where there is none.
+/// For each object the person who has it and may; a number above all persons where there is none.
 fn holders_of(
     alloc: Global,
     table: &Table,
@@ -110,8 +110,8 @@ fn holders_of(
     Ok(holders)
 }
 
-/// For each person, whether alternating paths lead there from the first one who has no object that the person knows.
-/// None where there is no such person, or a path leads to an object that nobody has and knows.
+/// For each person, whether alternating paths lead there from the first one who has no object that the person may have.
+/// None where there is no such person, or a path leads to an object that has no holder.
 ///
 /// Each row of a person reached is gone through once. O(persons * objects) time at most, 5 bytes of memory a person and
 /// 5 an object.

@@ -1,6 +1,7 @@
-//! Persons of a table who together know fewer objects than they number (a Hall violator): there is no assignment then.
+//! Persons of a table who together may have fewer objects than they number (a Hall violator): there is no assignment
+//! then.
 //!
-//! Nothing is known of the persons that a search proposes, so the objects that they know are gone through anew.
+//! Nothing is proved of the persons that a search proposes, so the objects that they may have are gone through anew.
 
 ghost use Rattle.std.specs.Prelude.{◌≡◌, ℕ, ◌^◌, ◌<◌, ◌≤◌, List, ℤ, IfOk, IfSome, drop, length, take};
 ghost use Rattle.auc_graph.specs.Problem.{IsProblem};
@@ -16,14 +17,14 @@ use auc_hall::places_of;
 use auc_table::{Proposal, Table};
 use std::alloc::{AllocError, Global};
 
-/// Persons who together know fewer objects than they number, and these objects. Both are in rising order.
+/// Persons who together may have fewer objects than they number, and these objects. Both are in rising order.
 #[derive(Drop)]
 pub(crate) struct Shortage {
     pub(crate) persons: Vec<u32>,
     pub(crate) objects: Vec<u32>,
 }
 
-/// Marks the objects that the person of a row knows.
+/// Marks the objects that the person of a row may have.
 // An entry isn't read where its object is marked.
 fn mark_row(row: &[i64], gap: i64, known: &mut [bool])
     requires { length known.old ≡ length row.now }
@@ -34,7 +35,7 @@ fn mark_row(row: &[i64], gap: i64, known: &mut [bool])
     }
 }
 
-/// For each object, whether a person who is flagged knows it.
+/// For each object, whether a person who is flagged may have it.
 fn known_objects(
     alloc: Global,
     table: &Table,
@@ -56,8 +57,8 @@ fn known_objects(
     Ok(known)
 }
 
-/// Persons who together know fewer objects than they number, where a proposal has nothing for a person, or an object
-/// that the person doesn't know. None where there is no such person, or where what can be reached from the first one
+/// Persons who together may have fewer objects than they number, where a proposal has nothing for a person, or one
+/// that the person may not have. None where there is no such person, or where what can be reached from the first one
 /// shows no shortage. If the proposal has as few such persons as can be, each one shows a shortage.
 ///
 /// Each row of a person reached is gone through twice. O(persons * objects) time at most, up to 16 bytes of memory a

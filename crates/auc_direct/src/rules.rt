@@ -12,13 +12,13 @@
 //!    number of its arcs, and is divided by 8 from phase to phase. Prices stay, and nobody keeps an object.
 //! 5. **Apart, ties, too fine, or calm.** Where nineteen persons in twenty of a sample have the cheapest arc of some
 //!    object, persons hold what is best for them at the reduced columns before any bid, and the last phase is tried
-//!    first. Of points in order along a line it gives nearly all an object. So it is tried where most rows have two best
-//!    arcs of the same value. After three bids a person it is given up where more than one person in twenty is free:
-//!    bids that met free objects by chance would leave so many. Else it may make a bid a person more for each halving of
-//!    the spread of all costs. The first phase is given up once it has made more bids for each person than eps can be
-//!    halved before it is 1. Eps then begins anew, at the mean spread of a row divided by the square root of the mean
-//!    number of its arcs. After a phase of fewer than two bids a person the last phase is tried at once. It may make a
-//!    bid a person for each phase from there on.
+//!    first. Of points in order along a line nearly all hold something then. So it is tried where most rows have two
+//!    best arcs of the same value. After three bids a person it is given up where more than one person in twenty is
+//!    free: bids that met free objects by chance would leave so many. Else it may make a bid a person more for each
+//!    halving of the spread of all costs. The first phase is given up once it has made more bids for each person than
+//!    eps can be halved before it is 1. Eps then begins anew, at the mean spread of a row divided by the square root of
+//!    the mean number of its arcs. After a phase of fewer than two bids a person the last phase is tried at once. It
+//!    may make a bid a person for each phase from there on.
 //! 6. **More objects than persons.** One phase at the last eps, from prices of 0, since an object that nobody holds has
 //!    to have price 0.
 

@@ -4,9 +4,10 @@
 //! time at most. Where that takes long, an auction with epsilon scaling gives the prices to begin at.
 //!
 //! [`propose`] gives each person an object, no object twice, and each object a price at which no person should prefer
-//! another object; or it leaves a person with nothing or a gap, where there should be no assignment. **Nothing is proved of the proposal**, but that the search ends and reads nothing outside of the
-//! table. The caller tries a proposal first, which takes one pass over the table. So the search may use sums that wrap,
-//! and needs no care for overflow.
+//! another object; or it leaves a person with nothing or a gap, where there should be no assignment. **Nothing is
+//! proved of the proposal**, but that the search ends and reads nothing outside of the table. The caller tries a
+//! proposal first, which takes one pass over the table. So the search may use sums that wrap, and needs no care for
+//! overflow.
 #![tactic(auto)]
 
 mod gaps;

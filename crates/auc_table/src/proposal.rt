@@ -261,8 +261,8 @@ pub fn complete(
 /// an object by a few more passes and by paths. The proposal is that assignment then, which need not be least. Its
 /// prices bound what any costs.
 ///
-/// Where some person has no path to an object that nobody has, there is no assignment, and that person has nothing, or a
-/// gap.
+/// Where some person has no path to an object that nobody has, there is no assignment, and that person has nothing, or
+/// a gap.
 ///
 /// Where `start` has a price for each object, in costs of the table times `scale`, and there are as many objects as
 /// persons, the search starts from these prices if they give a greater lower bound than prices of 0 (weak duality).

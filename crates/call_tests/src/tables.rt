@@ -114,8 +114,8 @@ fn bracket_and_start(rt: HostRuntime) {
     );
 }
 
-/// Two bids from prices of 0: the first person's for the first object is 5, since the second costs 4 more, and so is the
-/// second person's, for the second object. All want the first one then, at 1 + 5, so no assignment costs less than
+/// Two bids from prices of 0: the first person's for the first object is 5, since the second costs 4 more, and so is
+/// the second person's, for the second object. All want the first one then, at 1 + 5, so no assignment costs less than
 /// 3 * 6 - 10.
 #[test]
 fn by_few_bids(rt: HostRuntime) {

@@ -252,12 +252,12 @@ static int passes_hall(const given *g, const told *t) {
 }
 
 /* What the prices bound costs by, in scaled costs: the best of each row with its price, less all prices. */
-static __int128 bound_of(const given *g, const told *t, uint32_t objects) {
-    __int128 bound = 0, scale = g->persons + 1;
+static int64_t bound_of(const given *g, const told *t, uint32_t objects) {
+    int64_t bound = 0, scale = g->persons + 1;
     for (uint32_t j = 0; j < objects; j++)
         bound -= t->prices[j];
     for (uint32_t i = 0; i < g->persons; i++) {
-        __int128 best = (__int128)1 << 100;
+        int64_t best = INT64_MAX;
         for (uint32_t j = 0; j < objects; j++) {
             int64_t cost = g->costs[i * g->stride + j];
             if (cost != g->none && scale * cost + t->prices[j] < best)
@@ -278,7 +278,7 @@ static int passes_bracket(const given *g, const told *t) {
         taken |= 1u << t->choice[i];
         sum += g->costs[i * g->stride + t->choice[i]];
     }
-    __int128 over = (__int128)t->found.lower * (g->persons + 1) - bound_of(g, t, objects);
+    int64_t over = t->found.lower * (int64_t)(g->persons + 1) - bound_of(g, t, objects);
     return sum == t->found.cost && t->found.lower <= sum && t->found.kind == SIGDORF_BIDS && 0 <= over && over <= g->persons;
 }
 

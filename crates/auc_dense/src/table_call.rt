@@ -25,7 +25,7 @@ use std::alloc::Global;
 /// A search over the table comes first ([`auc_table::propose`]), in which to look over a row counts as a bid. Its
 /// answer is taken where one pass over the table shows that it is least, or that some persons may have too few objects.
 /// With as many objects as persons it starts from `start`, where these prices give a greater lower bound than prices of
-/// 0. That takes O(persons^2 * objects) time at most, and at most 52 bytes of memory an object and 40 a person.
+/// 0. That takes O(persons^2 * objects) time at most, and at most 53 bytes of memory an object and 48 a person.
 ///
 /// Where there are too few bids for the search, and no start, exactly so many are made from prices of 0, at one unit of
 /// cost. Their prices give the bound, and the assignment is filled up by a few passes over the table and by paths.

@@ -36,6 +36,9 @@ pub(crate) struct Search<const G: bool> {
     distances: Vec<i64>,
     reached_by: Vec<u64>,
     settled: Vec<Settled>,
+    // Of a search for any path: the objects that it has seen, and persons whose rows it has yet to look over.
+    seen: Vec<bool>,
+    queue: Vec<u32>,
 }
 
 impl<const G: bool> Search<G> {
@@ -46,6 +49,8 @@ impl<const G: bool> Search<G> {
             distances: vec![in alloc; UNREACHED; objects as usize]?,
             reached_by: vec![in alloc; 0; objects as usize]?,
             settled: Vec::new(alloc),
+            seen: vec![in alloc; false; if G { objects as usize } else { 0 }]?,
+            queue: Vec::new(alloc),
         })
     }
 
@@ -105,8 +110,45 @@ impl<const G: bool> Search<G> {
         }
     }
 
+    /// Whether any path without gaps leads from a person to an object that nobody holds, or that a gap gives to its
+    /// holder. A free object whose price is high may be farther than one behind a gap.
+    fn has_way(&mut self, table: &Table, market: &Market, start: u32) -> Result<bool, AllocError> {
+        for object in 0..self.seen.len() {
+            self.seen[object] = false;
+        }
+        self.queue.clear();
+        self.queue.push(start)?;
+        for _ in 0..=table.persons {
+            let Some(person) = self.queue.pop() else {
+                return Ok(false);
+            };
+            let row = row_of(table, person);
+            for object in 0..row.len().min(self.seen.len()) {
+                if self.seen[object] || self.gap.is_at(row[object]) {
+                    continue;
+                }
+                self.seen[object] = true;
+                match market.holder_of(object) {
+                    Some(holder) if !self.is_gap(table, holder, object) => {
+                        self.queue.push(holder)?;
+                    }
+                    _ => return Ok(true),
+                }
+            }
+        }
+        Ok(false)
+    }
+
+    /// Whether the entry of a person and an object is a gap.
+    fn is_gap(&self, table: &Table, person: u32, object: usize) -> bool {
+        match row_of(table, person).get(object) {
+            Some(entry) => self.gap.is_at(*entry),
+            None => false,
+        }
+    }
+
     /// Relaxes one row after another, until a free object is the closest one, and returns it. None where no object is
-    /// left, or where only a path with a gap is.
+    /// left, or where each path has a gap.
     fn find(
         &mut self,
         table: &Table,
@@ -122,8 +164,10 @@ impl<const G: bool> Search<G> {
                 return Ok(None);
             };
             let Some(holder) = market.holder_of(nearest.object) else {
-                let is_path = !self.has_gap(market, nearest);
-                return Ok(if is_path { Some(nearest) } else { None });
+                if self.has_gap(market, nearest) && !self.has_way(table, market, start)? {
+                    return Ok(None);
+                }
+                return Ok(Some(nearest));
             };
             by = self.settle(table, market, nearest, holder)?;
         }

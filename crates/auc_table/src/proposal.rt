@@ -277,7 +277,7 @@ pub fn complete(
 /// problems", Computing 38, 1987. With as many objects as persons, where that takes long, it begins anew from the
 /// prices of an auction with epsilon scaling.
 ///
-/// Takes O(persons^2 * objects) time at most, and at most 52 bytes of memory an object and 4 a person.
+/// Takes O(persons^2 * objects) time at most, and at most 53 bytes of memory an object and 12 a person.
 ///
 /// # Errors
 ///

@@ -6,14 +6,14 @@ ghost use Rattle.auc_graph.specs.Price.{IsPrice};
 ghost use Rattle.auc_market.specs.Endings.{IsStart};
 ghost use Rattle.auc_market.specs.Scan.{IsScale};
 
-use auc_rows::FlatRows;
+use auc_rows::{Columns, FlatRows};
 use std::alloc::{AllocError, Global};
 
 /// The greatest of the least costs of all columns; the least number where no object has an arc.
-fn greatest_of(rows: &FlatRows) -> i32 {
+fn greatest_of(columns: &Columns, objects: u32) -> i32 {
     let mut greatest = i32::MIN;
-    for object in 0..rows.objects() {
-        if let Some(least) = rows.least_cost(object) {
+    for object in 0..objects {
+        if let Some(least) = columns.least_cost(object) {
             greatest = greatest.max(least);
         }
     }
@@ -33,7 +33,11 @@ fn price_between(scale: i64, cost: i32, greatest: i32) -> i64
 /// Prices that a run may begin with, by column reduction (Jonker and Volgenant, 1987). With as many objects as persons
 /// the cheapest arcs of all objects have the same value at them. The object whose cheapest arc costs most has price 0,
 /// and so has an object with no arc. With more objects all prices are 0. O(objects).
-pub(crate) fn start_prices(alloc: Global, rows: &FlatRows) -> Result<Vec<i64>, AllocError>
+pub(crate) fn start_prices(
+    alloc: Global,
+    rows: &FlatRows,
+    columns: &Columns,
+) -> Result<Vec<i64>, AllocError>
     ensures { (eps : ℤ) → (rows.now.objects ≡ length rows.now.rows) ⊎ (eps ≡ pos 1)
         → IfOk result (λ v. IsStart rows.now eps v.items) }
 {
@@ -42,9 +46,9 @@ pub(crate) fn start_prices(alloc: Global, rows: &FlatRows) -> Result<Vec<i64>, A
         return Ok(prices);
     }
     let scale = rows.scale();
-    let greatest = greatest_of(rows);
+    let greatest = greatest_of(columns, rows.objects());
     for object in 0..prices.len() {
-        if let Some(least) = rows.least_cost(object as u32) {
+        if let Some(least) = columns.least_cost(object as u32) {
             prices[object] = price_between(scale, least, greatest);
         }
     }

@@ -21,7 +21,7 @@ use crate::rules::{
 use crate::tuning::{PACING, SAMPLED_ROWS};
 use auc_claim::Reason;
 use auc_market::{Attempt, Ending, Halt, Holdings, LAST_EPS, Market, Pace, Watch};
-use auc_rows::FlatRows;
+use auc_rows::{Columns, FlatRows};
 use std::alloc::{AllocError, Global};
 
 /// How the last phase has ended, and the market that it leaves.
@@ -263,13 +263,17 @@ fn run_from_zero<W: Watch>(
 }
 
 /// The market of a run without a start, at reduced columns. Where best arcs lie far enough apart, persons hold what is
-/// best for them.
-fn first_market(alloc: Global, rows: &FlatRows) -> Result<Market<'_>, AllocError>
+/// best for them. The columns are freed before the run.
+fn first_market<'a>(
+    alloc: Global,
+    rows: &'a FlatRows,
+    columns: Columns,
+) -> Result<Market<'a>, AllocError>
     requires arcs { EachHasArc rows.now }
     ensures begins { IfOk result (Begins rows.now) }
     ensures start { IfOk result (λ m. IsStart rows.now (pos 1) m.prices) }
 {
-    let prices = start_prices(alloc, rows)?;
+    let prices = start_prices(alloc, rows, &columns)?;
     let market = Market::new(alloc, rows, prices)?;
     if rows.persons() != rows.objects() {
         return Ok(market);
@@ -278,7 +282,7 @@ fn first_market(alloc: Global, rows: &FlatRows) -> Result<Market<'_>, AllocError
         return Ok(market);
     }
     drop(market);
-    let prices = start_prices(alloc, rows)?;
+    let prices = start_prices(alloc, rows, &columns)?;
     let market = Market::from_start(alloc, rows, prices.as_slice())?;
     Ok(market)
 }
@@ -288,6 +292,7 @@ fn first_market(alloc: Global, rows: &FlatRows) -> Result<Market<'_>, AllocError
 pub(crate) fn run_first<W: Watch>(
     alloc: Global,
     rows: &FlatRows,
+    columns: Columns,
     bids: u64,
     watch: &mut W,
 ) -> Result<Outcome, Halt>
@@ -299,7 +304,7 @@ pub(crate) fn run_first<W: Watch>(
     ensures asked { IfOk result (λ o. W.was_asked watch.new ≡ true) }
     ensures halt { IfErr result (λ h. IsHalt rows.now h × (W.has_stopped watch.new ≡ W.has_stopped watch.old)) }
 {
-    let market = first_market(alloc, rows)?;
+    let market = first_market(alloc, rows, columns)?;
     let outcome = run(alloc, rows, bids, market, &[], watch)?;
     if outcome.ending != Ending::Stopped(Reason::Ceiling) {
         return Ok(outcome);

@@ -24,7 +24,7 @@ use auc_answers::{Answer, Gathered, Prepared, prepare};
 use auc_claim::{HIGHEST_START, Reason};
 use auc_graph::{ArcList, Indices};
 use auc_market::{Ending, HallSet, Halt, Market, Watch};
-use auc_rows::FlatRows;
+use auc_rows::{Columns, FlatRows};
 use std::alloc::{AllocError, Global};
 
 /// The limits of the solver.
@@ -280,11 +280,12 @@ pub fn solve_direct_watched<W: Watch>(
     ensures run { IfOk result (IsOfFirstPhases problem.now limits.now.bids) }
     ensures asked { IfOk result (IsAsked (W.was_asked watch.new)) }
 {
-    let flat = FlatRows::build(alloc, problem)?;
+    let mut columns = Columns::new(alloc, problem.objects())?;
+    let flat = FlatRows::build(alloc, problem, &mut columns)?;
     if let Some(answer) = answered(alloc, problem, &flat)? {
         return Ok(answer);
     }
-    let ended = run_first(alloc, &flat, limits.bids, watch);
+    let ended = run_first(alloc, &flat, columns, limits.bids, watch);
     concluded(alloc, problem, flat, ended)
 }
 
@@ -308,10 +309,12 @@ pub fn solve_direct_watched_from<W: Watch>(
     ensures run { IfOk result (IsOfPhasesFrom problem.now limits.now.bids start.now) }
     ensures asked { IfOk result (IsAsked (W.was_asked watch.new)) }
 {
-    let flat = FlatRows::build(alloc, problem)?;
+    let mut columns = Columns::new(alloc, problem.objects())?;
+    let flat = FlatRows::build(alloc, problem, &mut columns)?;
     if let Some(answer) = answered(alloc, problem, &flat)? {
         return Ok(answer);
     }
+    drop(columns);
     let market = Market::from_start(alloc, &flat, start)?;
     let ended = run(alloc, &flat, limits.bids, market, start, watch);
     concluded(alloc, problem, flat, ended)

@@ -20,6 +20,13 @@ all_same a xs ys n len enough same =
     same_lists xs (replicate (length ys) a) (len ∙ sym (length-replicate (length ys) a))
     (λ k d lt. get_or_default xs k d a lt ∙ same k (omega (arith, lt, enough)) ∙ sym (get_or-replicate (length ys) k a d (omega (arith, lt, len))))
 
+-- as many objects as before, and nobody holds any
+pub opened_many : (before holders : List ℕ) → holders ≡ replicate (length before) NOBODY → length holders ≡ length before
+opened_many before holders nobody = ap length nobody ∙ length-replicate (length before) NOBODY
+
+pub opened_none : (before holders : List ℕ) → holders ≡ replicate (length before) NOBODY → (j : ℕ) → holder_at holders j ≡ NOBODY
+opened_none before holders nobody j = ap (λ (hs : List ℕ). holder_at hs j) nobody ∙ replicate_default (length before) j NOBODY
+
 pub stands_opened : (r : FlatTable) (first eps : ℤ) (prices : List ℤ) (holders : List ℕ) (owns : List ShortArc) (n m : ℕ) → IsStart r first prices → n ≡ r.objects → m ≡ length r.rows → holders ≡ replicate n NOBODY → owns ≡ replicate m no_own → Stands r eps prices holders owns
 stands_opened r first eps prices holders owns n m start objects persons nobody none = record {
   prices_are = start.each;

@@ -1,5 +1,5 @@
 -- The incumbent: the arcs by which the persons held objects when each had one last.
-use Rattle.std.specs.Prelude.{ℕ, true, ◌≡◌, ◌≢◌, ◌⊎◌, List, length, Contains}
+use Rattle.std.specs.Prelude.{ℕ, true, ◌≡◌, ◌≢◌, ◌<◌, ◌⊎◌, List, length, Contains}
 use Rattle.auc_rows.specs.declared.arc.ShortArc.{ShortArc}
 use Rattle.auc_rows.specs.Rows.{FlatTable, flat_row_of}
 use Rattle.auc_market.specs.declared.holdings.Holdings.{Holdings}
@@ -7,22 +7,29 @@ use Rattle.auc_letters.specs.declared.limits.TheConstants.{NOBODY}
 use Rattle.auc_market.specs.declared.incumbent.Incumbent.{Incumbent}
 use Rattle.auc_market.specs.Market.{holder_at, own_at}
 
--- holders and arcs that agree: each object's holder has it, and each person with an object is its holder, by an arc of
--- the person's row
-pub record AreSeats (r : FlatTable) (holders : List ℕ) (owns : List ShortArc) : Type 0 where
+-- arcs of different persons lead to different objects, below this number
+pub record AreApart (objects : ℕ) (owns : List ShortArc) : Type 0 where
+  pub below : (i : ℕ) → (own_at owns i).object ≢ NOBODY → (own_at owns i).object < objects
+  pub apart : (i k : ℕ) → (own_at owns i).object ≢ NOBODY → (own_at owns k).object ≡ (own_at owns i).object → k ≡ i
+
+-- each object's holder has it, and each of the first n persons with an object is its holder
+pub record AreTaken (n : ℕ) (holders : List ℕ) (owns : List ShortArc) : Type 0 where
   pub held : (j : ℕ) → holder_at holders j ≢ NOBODY → (own_at owns (holder_at holders j)).object ≡ j
-  pub holds : (i : ℕ) → (own_at owns i).object ≢ NOBODY → holder_at holders (own_at owns i).object ≡ i
+  pub holds : (i : ℕ) → i < n → (own_at owns i).object ≢ NOBODY → holder_at holders (own_at owns i).object ≡ i
+
+-- arcs of the persons' rows to different objects
+pub record AreSeats (r : FlatTable) (owns : List ShortArc) : Type 0 where
+  pub apart : AreApart r.objects owns
   pub listed : (i : ℕ) → (own_at owns i).object ≢ NOBODY → Contains (flat_row_of r i) (own_at owns i)
 
--- a place for each object and each person; and, where there is an incumbent, such holders and arcs
+-- a place for each person; and, where there is an incumbent, such arcs
 pub record IsIncumbent (r : FlatTable) (i : Incumbent) : Type 0 where
-  pub holders_are : length i.holders.items ≡ r.objects
   pub owns_are : length i.owns.items ≡ length r.rows
-  pub seats : i.is_whole ≡ true → (r.objects ≡ length r.rows) × AreSeats r i.holders.items i.owns.items
+  pub seats : i.is_whole ≡ true → (r.objects ≡ length r.rows) × AreSeats r i.owns.items
 
 -- nothing has changed, or the incumbent is now what was held
 abbrev pub AreSetAside : Holdings → Incumbent → Holdings → Incumbent → Type 0
 AreSetAside old before new after =
-    ((new ≡ old) × (after ≡ before))
+    ((new.owns ≡ old.owns) × (after ≡ before))
     ⊎
-    ((after.holders ≡ old.holders) × (after.owns ≡ old.owns) × (new.holders ≡ before.holders) × (new.owns ≡ before.owns))
+    ((after.owns ≡ old.owns) × (new.owns ≡ before.owns))

@@ -1,19 +1,20 @@
 //! The incumbent: the last full assignment. A run that is stopped answers with it, at the prices of the stop.
 
-ghost use Rattle.std.specs.Prelude.{◌≡◌, true, length};
-ghost use Rattle.auc_market.specs.Incumbent.{AreSetAside};
-ghost use Rattle.auc_market.specs.Market.{HaveObjects};
+ghost use Rattle.std.specs.Prelude.{ℕ, ◌≡◌, true, length};
+ghost use Rattle.auc_letters.specs.declared.limits.TheConstants.{NOBODY};
+ghost use Rattle.auc_market.specs.Incumbent.{AreApart, AreSetAside, AreTaken};
+ghost use Rattle.auc_market.specs.Market.{HaveObjects, holder_at};
 
 use crate::holdings::Holdings;
 use crate::watch::Best;
+use auc_letters::NOBODY;
 use auc_rows::ShortArc;
 use std::mem;
 
-/// The holder of each object, indexed by object; the own arc of each person, indexed by person; and whether each person
-/// had an object. What it shows of the least cost is for a watch.
+/// The own arc of each person, indexed by person, and whether each person had an object. What it shows of the least cost
+/// is for a watch.
 #[derive(Drop)]
 pub(crate) struct Incumbent {
-    pub(crate) holders: Vec<u32>,
     pub(crate) owns: Vec<ShortArc>,
     pub(crate) is_whole: bool,
     pub(crate) best: Option<Best>,
@@ -37,10 +38,11 @@ fn best_at(owns: &[ShortArc], eps: i64) -> Best {
 }
 
 impl Holdings {
-    /// Where each person has an object, within this eps of the best, these holdings become the incumbent. The holdings
+    /// Where each person has an object, within this eps of the best, these own arcs become the incumbent. The holdings
     /// are to be opened afterwards.
     pub(crate) fn set_aside(&mut self, eps: i64, incumbent: &mut Incumbent)
         ensures prices { self.new.prices ≡ self.old.prices }
+        ensures holders { self.new.holders ≡ self.old.holders }
         ensures whole { HaveObjects (length self.old.owns.items) self.old.owns.items → (incumbent.new.is_whole ≡ true)
             × (incumbent.new.owns.items ≡ self.old.owns.items) }
         ensures aside { AreSetAside self.old incumbent.old self.new incumbent.new }
@@ -49,8 +51,33 @@ impl Holdings {
             return;
         }
         incumbent.best = Some(best_at(self.owns.as_slice(), eps));
-        mem::swap(&mut self.holders, &mut incumbent.holders);
         mem::swap(&mut self.owns, &mut incumbent.owns);
         incumbent.is_whole = true;
+    }
+
+    /// After a phase has begun: each person holds the object of these arcs again.
+    pub(crate) fn take_up(self, persons: u32, owns: Vec<ShortArc>) -> Holdings
+        requires persons { persons ≡ length owns.items }
+        requires blank { (j : ℕ) → holder_at self.holders.items j ≡ NOBODY }
+        requires apart { AreApart (length self.holders.items) owns.items }
+        ensures prices { result.prices.items ≡ self.prices.items }
+        ensures owns { result.owns.items ≡ owns.items }
+        ensures many { length result.holders.items ≡ length self.holders.items }
+        ensures taken { AreTaken (length owns.items) result.holders.items owns.items }
+    {
+        let Holdings {
+            prices, mut holders, ..
+        } = self;
+        for person in 0..persons {
+            let own = owns[person as usize];
+            if own.object != NOBODY {
+                holders[own.object as usize] = person;
+            }
+        }
+        Holdings {
+            prices,
+            holders,
+            owns,
+        }
     }
 }

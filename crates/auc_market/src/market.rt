@@ -112,10 +112,8 @@ impl<'a> Market<'a> {
         ensures prices { IfOk result (λ m. m.prices ≡ holdings.prices.items) }
     {
         let lists = Lists::new(alloc, rows)?;
-        let holders = vec![in alloc; NOBODY; rows.objects() as usize]?;
         let owns = vec![in alloc; NO_OWN; rows.persons() as usize]?;
         let incumbent = Incumbent {
-            holders,
             owns,
             is_whole: false,
             best: None,
@@ -235,7 +233,8 @@ impl<'a> Market<'a> {
         ensures { AreHandedOn ending self.entry result.prices.items result.holders.items result.owns.items }
     {
         let Market {
-            holdings,
+            rows,
+            mut holdings,
             incumbent,
             ..
         } = self;
@@ -245,13 +244,9 @@ impl<'a> Market<'a> {
                 if !incumbent.is_whole {
                     return holdings;
                 }
-                let Holdings { prices, .. } = holdings;
-                let Incumbent { holders, owns, .. } = incumbent;
-                Holdings {
-                    prices,
-                    holders,
-                    owns,
-                }
+                let Incumbent { owns, .. } = incumbent;
+                holdings.open();
+                holdings.take_up(rows.persons(), owns)
             }
         }
     }

@@ -14,24 +14,8 @@ use std::collections::BinaryHeap;
 /// `near` of the free person. `near` of an object is this less the length of the path to it: std's heap is a max-heap.
 const NEAREST: u64 = 4_611_686_018_427_387_904;
 
-/// The label of an object, valid in the search of this number. `place` is the place, in the taker's row, of the arc by
-/// which the taker would get the object. `before` is the object that the taker would leave for it, NOBODY for the free
-/// person.
-#[derive(Clone, Copy)]
-struct Label {
-    near: u64,
-    search: u32,
-    place: u32,
-    before: u32,
-}
-
-/// The label of an object that no search has reached.
-const BLANK: Label = Label {
-    near: 0,
-    search: 0,
-    place: 0,
-    before: NOBODY,
-};
+/// `near` of an object that the search has not reached.
+const UNREACHED: u64 = 0;
 
 /// An object and its `near`.
 #[derive(Clone, Copy)]
@@ -64,18 +48,20 @@ struct Taker {
 
 /// Room for searches:
 ///
-/// - labels of all objects, with the number of the present search;
-/// - the heap of held objects, the closest first;
+/// - the labels of all objects: `near`, and the object `before` that the taker would leave, NOBODY for the free person;
+/// - the heap of objects that are reached, the closest first;
 /// - the closest object that nobody holds;
 /// - the settled objects in order;
 /// - the number of arcs scanned.
+///
+/// Each object that is reached is in the heap or settled. So the next search knows which labels to blank.
 ///
 /// And the proposal of a search: prices that rise, and the arcs by which objects are taken, each by its place in the
 /// row of its taker.
 #[derive(Drop)]
 pub(crate) struct Search {
-    labels: Vec<Label>,
-    number: u32,
+    near: Vec<u64>,
+    before: Vec<u32>,
     heap: BinaryHeap<(u64, u32)>,
     end: Settled,
     pub(crate) settled: Vec<Settled>,
@@ -88,8 +74,8 @@ impl Search {
     /// With no room for labels yet.
     pub(crate) fn new(alloc: Global) -> Search {
         Search {
-            labels: Vec::new(alloc),
-            number: 0,
+            near: Vec::new(alloc),
+            before: Vec::new(alloc),
             heap: BinaryHeap::new(alloc),
             end: NOWHERE,
             settled: Vec::new(alloc),
@@ -114,13 +100,13 @@ impl Search {
         let row = rows.row(taker.person);
         let own = holdings.own_value(scale, taker.person);
         let many = self
-            .labels
+            .near
             .len()
+            .min(self.before.len())
             .min(holdings.prices.len())
             .min(holdings.holders.len());
         self.scanned = self.scanned.saturating_add(row.len() as u64);
-        for place in 0..row.len() {
-            let arc = row[place];
+        for arc in row {
             let object = arc.object as usize;
             if object >= many {
                 continue;
@@ -129,27 +115,18 @@ impl Search {
                 .wrapping_sub(own)
                 .max(0);
             let near = taker.near.saturating_sub(more.unsigned_abs());
-            if near <= self.end.near {
+            if near <= self.end.near || near <= self.near[object] {
                 continue;
             }
-            let label = self.labels[object];
-            if label.search == self.number && near <= label.near {
-                continue;
-            }
-            self.labels[object] = Label {
-                near,
-                search: self.number,
-                place: u32::try_from(place).unwrap_or(NOBODY),
-                before: taker.before,
-            };
+            self.near[object] = near;
+            self.before[object] = taker.before;
             if holdings.holders[object] == NOBODY {
                 self.end = Settled {
                     object: arc.object,
                     near,
                 };
-            } else {
-                self.heap.push((near, arc.object))?;
             }
+            self.heap.push((near, arc.object))?;
         }
         Ok(())
     }
@@ -162,18 +139,7 @@ impl Search {
         holdings: &Holdings,
         start: u32,
     ) -> Result<bool, AllocError> {
-        let objects = rows.objects() as usize;
-        if self.labels.len() != objects {
-            self.labels.clear();
-            self.labels.resize(objects, BLANK)?;
-        }
-        self.number = self.number.wrapping_add(1);
-        self.heap.clear();
-        self.settled.clear();
-        self.rises.clear();
-        self.route.clear();
-        self.end = NOWHERE;
-        self.scanned = 0;
+        self.begin(rows.objects() as usize)?;
         let mut taker = Taker {
             person: start,
             near: NEAREST,
@@ -194,29 +160,74 @@ impl Search {
         if self.end.near == 0 {
             return Ok(false);
         }
-        self.propose(holdings)?;
+        self.propose(rows, holdings, start)?;
         Ok(true)
+    }
+
+    /// Begins a search of so many objects: blanks the labels of the search before.
+    fn begin(&mut self, objects: usize) -> Result<(), AllocError> {
+        for (_, object) in self.heap.as_slice() {
+            if (*object as usize) < self.near.len() {
+                self.near[*object as usize] = UNREACHED;
+            }
+        }
+        for settled in &self.settled {
+            if (settled.object as usize) < self.near.len() {
+                self.near[settled.object as usize] = UNREACHED;
+            }
+        }
+        self.near.resize(objects, UNREACHED)?;
+        self.before.resize(objects, NOBODY)?;
+        self.heap.clear();
+        self.settled.clear();
+        self.rises.clear();
+        self.route.clear();
+        self.end = NOWHERE;
+        self.scanned = 0;
+        Ok(())
     }
 
     /// The closest object in the heap; none where no object in it is closer than the closest one that nobody holds.
     fn next(&mut self) -> Option<Settled> {
         for _ in 0..u64::MAX {
-            let (near, object) = self.heap.pop()?;
+            let (near, object) = *self.heap.peek()?;
             if near <= self.end.near {
                 return None;
             }
+            let _ = self.heap.pop();
             // An object whose label was improved since then has an entry before this one.
             let place = object as usize;
-            if place < self.labels.len() && self.labels[place].near == near {
+            if place < self.near.len() && self.near[place] == near {
                 return Some(Settled { object, near });
             }
         }
         None
     }
 
+    /// The place, in a person's row, of the cheapest arc to an object; NOBODY where there is none.
+    fn place_of(rows: &FlatRows, person: u32, object: u32) -> u32 {
+        let mut found = NOBODY;
+        if person >= rows.persons() {
+            return found;
+        }
+        let mut least = i32::MAX;
+        for (place, arc) in rows.row(person).iter().enumerate() {
+            if arc.object == object && arc.cost < least {
+                least = arc.cost;
+                found = u32::try_from(place).unwrap_or(NOBODY);
+            }
+        }
+        found
+    }
+
     /// Proposes that the price of each settled object rises by as much as it is closer than the end. The route follows
     /// the labels from the end back to the free person.
-    fn propose(&mut self, holdings: &Holdings) -> Result<(), AllocError> {
+    fn propose(
+        &mut self,
+        rows: &FlatRows,
+        holdings: &Holdings,
+        start: u32,
+    ) -> Result<(), AllocError> {
         for settled in &self.settled {
             let place = settled.object as usize;
             if place >= holdings.prices.len() {
@@ -232,12 +243,17 @@ impl Search {
         }
         let mut object = self.end.object;
         for _ in 0..=self.settled.len() {
-            if object as usize >= self.labels.len() {
+            if object as usize >= self.before.len() {
                 break;
             }
-            let label = self.labels[object as usize];
-            self.route.push(label.place)?;
-            object = label.before;
+            let before = self.before[object as usize];
+            let taker = if before == NOBODY {
+                start
+            } else {
+                holdings.holder_of(before)
+            };
+            self.route.push(Search::place_of(rows, taker, object))?;
+            object = before;
         }
         self.route.reverse();
         Ok(())

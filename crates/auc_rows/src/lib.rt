@@ -12,4 +12,5 @@ mod columns;
 mod rows;
 
 pub use arc::ShortArc;
+pub use columns::Columns;
 pub use rows::FlatRows;

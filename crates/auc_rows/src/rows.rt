@@ -5,7 +5,7 @@ ghost use Rattle.auc_graph.specs.declared.limits.TheConstants.{MOST_SCALE};
 ghost use Rattle.auc_rows.specs.Rows.{AreRowsOf, IsShort, flat_row_of};
 
 use crate::arc::ShortArc;
-use crate::columns::{Columns, UNKNOWN};
+use crate::columns::Columns;
 use auc_graph::{ArcList, LaidOut, laid_out};
 use std::alloc::{AllocError, Global};
 use std::marker::Model;
@@ -17,7 +17,6 @@ use std::marker::Model;
 #[derive(Drop)]
 pub struct FlatRows {
     laid: LaidOut<ShortArc>,
-    columns: Columns,
     is_full: bool,
 }
 
@@ -65,21 +64,23 @@ impl FlatRows {
     ghost use Rattle.std.specs.Prelude.{IsTrue};
     ghost use Rattle.auc_rows.specs.Rows.{EachHasArc, IsFlatTable, scale_in};
 
-    /// The rows of a problem. Takes O(arcs + persons) time, and 8 bytes of memory an arc and 8 a person; where the arcs
+    /// The rows of a problem; the columns take in each arc on the way. Takes O(arcs + persons) time, and 8 bytes of memory an arc and 8 a person; where the arcs
     /// aren't in the order of their persons, 16 bytes more a person while it runs.
     ///
     /// # Errors
     ///
     /// Only where memory was refused.
-    pub fn build(alloc: Global, problem: &ArcList) -> Result<FlatRows, AllocError>
+    pub fn build(
+        alloc: Global,
+        problem: &ArcList,
+        columns: &mut Columns,
+    ) -> Result<FlatRows, AllocError>
         ensures { IfOk result (AreRowsOf problem.now) }
     {
-        let mut columns = Columns::new(alloc, problem.objects())?;
         let laid = laid_out(alloc, problem, |arc| columns.note(arc))?;
         let is_full = are_full(&laid);
         Ok(FlatRows {
             laid,
-            columns,
             is_full,
         })
     }
@@ -121,14 +122,6 @@ impl FlatRows {
         ensures high { result ≤ℤ pos (2 * 10 ^ 9) }
     {
         self.laid.spread
-    }
-
-    /// The least cost of the arcs that lead to an object, in costs of the file; none where there are none. No clause
-    /// says which it is: prices of any kind serve to begin with. O(1).
-    #[inline]
-    pub fn least_cost(&self, object: u32) -> Option<i32> {
-        let least = *self.columns.least.get(object as usize)?;
-        if least == UNKNOWN { None } else { Some(least) }
     }
 
     /// The number of all arcs.

@@ -2,7 +2,7 @@ use Rattle.std.proofs.Common.{inl, length, refl, w64}
 use Rattle.std.specs.Prelude.{FitsSigned}
 use Rattle.std.proofs.lemmas.Int.{to_z-of_z}
 use Rattle.auc_market.specs.Bids.{state}
-use Rattle.auc_market.proofs.Incumbents.{aside_holders, aside_is, aside_owns}
+use Rattle.auc_market.proofs.Incumbents.{aside_is, aside_owns}
 use Rattle.auc_market.proofs.Opening.{stands_opened}
 use Rattle.auc_market.proofs.PhasesLaws.{opened_is}
 use Rattle.auc_market.proofs.market.Market.open.Goals as goal
@@ -24,10 +24,10 @@ invariant_of-self c =
         sound = law.sound;
         arcs = law.arcs;
         eps = eps;
-        stands = rw same (stands_opened rows c.args.eps c.args.eps old.prices.items c.open.new.self.holders.items c.open.new.self.owns.items (length mid.holders.items) (length mid.owns.items) (record { each = law.stands.prices_are; within = law.stands.within; spare = inl square }) (aside_holders rows c.self.inside.eps old.prices.items old c.self.inside.incumbent mid c.set_aside.new.incumbent square law.stands is aside) (aside_owns rows c.self.inside.eps old.prices.items old c.self.inside.incumbent mid c.set_aside.new.incumbent square law.stands is aside) c.open.ensures.holders c.open.ensures.owns);
+        stands = rw same (stands_opened rows c.args.eps c.args.eps old.prices.items c.open.new.self.holders.items c.open.new.self.owns.items (length mid.holders.items) (length mid.owns.items) (record { each = law.stands.prices_are; within = law.stands.within; spare = inl square }) (rw c.set_aside.ensures.holders law.stands.holders_are) (aside_owns rows c.self.inside.eps old.prices.items old c.self.inside.incumbent mid c.set_aside.new.incumbent square law.sound law.stands is aside) c.open.ensures.holders c.open.ensures.owns);
       };
       kept = rw same c.self.invariant.kept;
-      incumbent_is = aside_is rows c.self.inside.eps old.prices.items old c.self.inside.incumbent mid c.set_aside.new.incumbent square law.stands is aside;
+      incumbent_is = aside_is rows c.self.inside.eps old.prices.items old c.self.inside.incumbent mid c.set_aside.new.incumbent square law.sound law.stands is aside;
     })
 
 pub returns : goal.returns

@@ -36,12 +36,14 @@ class Crate:
             return self.folder / "out" / f"lib{self.name}.a"
         return self.folder / "out" / (self.name if self.is_program() else "rlib/stamp")
 
-    def is_current(self):
-        """Whether it was built after the last change of its sources and of crates.txt."""
+    def is_current(self, crates):
+        """Whether it was built after the last change of its sources and of crates.txt, and after the crates that it stands on."""
         if not self.product().exists():
             return False
         built = self.product().stat().st_mtime
-        return all(path.stat().st_mtime <= built for path in (ROOT / "crates.txt", *self.sources()))
+        products = [crates[name].product() for name in self.below]
+        origins = (ROOT / "crates.txt", *self.sources(), *(product for product in products if product.exists()))
+        return all(path.stat().st_mtime <= built for path in origins)
 
     def freshen(self):
         """Gives the product today's date: where only the date of a source has changed, `rt` leaves it as it was."""
@@ -83,8 +85,8 @@ def measure_ways(crates):
 
 
 def outdated(crates):
-    """The crates that have to be built: their sources have changed since, or something below them is to be built."""
-    left = {name for name, crate in crates.items() if not crate.is_current()}
+    """The crates that have to be built: their sources, or what they stand on, have changed since, or something below them is to be built."""
+    left = {name for name, crate in crates.items() if not crate.is_current(crates)}
     while more := {name for name, crate in crates.items() if name not in left and left & set(crate.below)}:
         left |= more
     return left

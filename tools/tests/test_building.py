@@ -194,6 +194,15 @@ class Building(ToolTest):
         self.assertEqual(self.run_once("auction", "--version")[0], 0)
         self.assertEqual(sorted(self.lines("said")[4:]), ["auction", "left"])
 
+    def test_what_another_build_has_changed_is_built_upon(self):
+        self.run_once("auction", "--version")
+        source = self.clone / "crates/left/src/lib.rt"
+        os.utime(source, (time.time() + 1, time.time() + 1))
+        time.sleep(1.1)
+        self.run_once("tools/build", "left")
+        self.assertEqual(self.run_once("auction", "--version")[0], 0)
+        self.assertEqual(self.lines("said")[4:], ["left", "auction"], "the program was of the library before")
+
     def test_words(self):
         self.assertEqual(self.run_once("tools/build", "nosuch")[0], 2)
         self.assertIn("crates.txt has no crate nosuch", self.run_once("tools/build", "nosuch")[2])

@@ -129,6 +129,15 @@ static inline uint64_t bids_for(uint64_t bids, size_t persons) {
 /* The whole number next to a value of 2^51 at most; of two the even one. */
 static inline double nearest(double value) { return value + 0x1.8p52 - 0x1.8p52; }
 
+/* A number times a power of two, rounded once, as ldexp has it: by a multiplication, since a small table has dozens. */
+static inline double by_power(double value, int exponent) {
+    if (exponent < -1022 || exponent > 1023) return __builtin_ldexp(value, exponent);
+    uint64_t bits = (uint64_t)(exponent + 1023) << 52;
+    double power;
+    __builtin_memcpy(&power, &bits, sizeof power);
+    return value * power;
+}
+
 /* The block of a room, with so many bytes at least and what it has held lost; NULL where there is no memory. */
 void *block_of(room *r, size_t bytes);
 /* A part of a block, of so many values of a size. */

@@ -11,6 +11,9 @@
  * whether there is more to see. */
 #define LANES 4
 #define BLOCK 256
+#define FEW 32
+/* So many numbers lie in a line of the cache. */
+#define LINE 8
 /* Costs are read as they are while a unit is within these powers of two, since then nothing runs over or under; finer
  * ones are read greater, and coarser ones smaller, by so many. */
 #define FINE 900
@@ -181,13 +184,13 @@ int look_over(job *w) {
 static int unit_of(double least, double most) {
     /* Great ones smaller, so that their difference doesn't run over. */
     int down = greater(fabs(least), fabs(most)) > 0x1p1000 ? 4 : 0, exponent, widest;
-    least = ldexp(least, -down), most = ldexp(most, -down);
+    least = by_power(least, -down), most = by_power(most, -down);
     double span = most - least;
     frexp(greater(fabs(least), fabs(most)), &widest);
     if (!(span > 0)) return BITS - widest - down;
     frexp(span, &exponent);
     int unit = BITS + 1 - exponent;
-    if (ldexp(span, unit) > SIGDORF_MOST_COST - 2) unit--;
+    if (by_power(span, unit) > SIGDORF_MOST_COST - 2) unit--;
     return (unit < 50 - widest ? unit : 50 - widest) - down;
 }
 
@@ -196,7 +199,7 @@ static int shift_of(int unit) { return unit > FINE ? GREATER : unit < COARSE ? -
 
 /* What a number of up to 2^50 units is added to, as it is read, so that the sum is rounded to whole units, and so many
  * last bits of it are as many units. */
-static double rounder_of(int unit) { return ldexp(1.5, 52 - (unit - shift_of(unit))); }
+static double rounder_of(int unit) { return by_power(1.5, 52 - (unit - shift_of(unit))); }
 
 static inline int64_t bits_of(double value) {
     int64_t bits;
@@ -205,21 +208,39 @@ static inline int64_t bits_of(double value) {
 }
 static int64_t units_of(double value, int unit) {
     double rounder = rounder_of(unit);
-    return bits_of(ldexp(value, shift_of(unit)) + rounder) - bits_of(rounder);
+    return bits_of(by_power(value, shift_of(unit)) + rounder) - bits_of(rounder);
+}
+
+/* Takes into the greatest of each lane what is below a ceiling: no choice is made on the way, which nobody could
+ * foresee. */
+static inline void look_below(double *most, const double *values, size_t count, double sign, double ceiling) {
+    for (size_t l = 0; l < count; l++) {
+        double value = sign * values[l], below = value < ceiling ? value : -INFINITY;
+        most[l] = below > most[l] ? below : most[l];
+    }
+}
+
+/* The greatest of some doubles, turned, that is below a ceiling. */
+static double greatest_below(const double *values, size_t count, double sign, double ceiling) {
+    double most[LANES], all = -INFINITY;
+    size_t e = 0;
+    for (size_t l = 0; l < LANES; l++) most[l] = -INFINITY;
+    for (; e + LANES <= count; e += LANES) look_below(most, values + e, LANES, sign, ceiling);
+    look_below(most, values + e, count - e, sign, ceiling);
+    for (size_t l = 0; l < LANES; l++) all = greater(all, most[l]);
+    return all;
 }
 
 /* Whether the greatest cost is a gate: so great beside all others, which are up to `inner`, that the fewest of it are
  * wanted first of all. */
 static int find_gate(const job *w, double *inner) {
-    double widest = (w->ceiling - w->floor) / (4 * (double)w->persons), high = w->floor, ceiling = w->ceiling;
-    double sign = w->sign;
+    double widest = (w->ceiling - w->floor) / (4 * (double)w->persons), high = w->floor;
     size_t length = run_length(w);
     for (size_t run = 0; run < runs_of(w); run++) {
         const double *values = run_at(w, run);
-        for (size_t e = 0; e < length; e++) {
-            double value = sign * values[e];
-            if ((value <= high) | (value >= ceiling)) continue;
-            high = value;
+        for (size_t e = 0, next; e < length; e = next) {
+            next = length - e < FEW ? length : e + FEW;
+            high = greater(high, greatest_below(values + e, next - e, w->sign, w->ceiling));
             if (!(high - w->floor <= widest)) return 0;
         }
     }
@@ -238,7 +259,7 @@ static void take_gate(job *w, double inner) {
         cost = 2 * (int64_t)w->persons * span;
     } while (cost > SIGDORF_MOST_COST);
     /* Less also where the least cost was rounded up. */
-    if (!(ldexp(1.01 * (double)cost + 1, -unit) < w->ceiling - w->floor)) return;
+    if (!(by_power(1.01 * (double)cost + 1, -unit) < w->ceiling - w->floor)) return;
     w->gate = w->ceiling, w->inner = inner, w->gate_span = span, w->gate_cost = cost, w->unit = unit;
 }
 
@@ -358,17 +379,35 @@ static uint64_t write_whole(const job *w, const uint64_t *values, size_t count, 
     return 0;
 }
 
-/* A table's costs, run by run: of more rows than columns each row is one, and goes to a column. 0, or a status. */
+/* A run of a table; 0 where none has a tail. */
+static uint64_t write_run(const job *w, size_t run, size_t length, double rounder, int64_t *to) {
+    const double *values = run_at(w, run);
+    return w->q.type == 'd' ? write_floats(w, values, length, rounder, to)
+                            : write_whole(w, (const uint64_t *)values, length, to);
+}
+
+/* Rows to columns: `count` rows of a length, to places from `first` on of columns that are `width` apart. */
+static void turn_rows(const int64_t *restrict rows, size_t count, size_t length, size_t width,
+                      int64_t *restrict first) {
+    for (size_t i = 0; i < length; i++)
+        for (size_t k = 0; k < count; k++) first[i * width + k] = rows[k * length + i];
+}
+
+/* A table's costs, run by run: of more rows than columns each row is one, and goes to a column, some rows at a time,
+ * which fill a line of the cache in each column. 0, or a status. */
 static int write_runs(job *w, double rounder, uint64_t *tails) {
-    size_t runs = w->by_columns ? w->q.rows : runs_of(w), length = w->by_columns ? w->q.columns : run_length(w);
-    int64_t *row = w->by_columns ? block_of(&w->shop->level, length * 8) : NULL;
-    if (w->by_columns && !row) return SIGDORF_MEMORY;
-    for (size_t run = 0; run < runs; run++) {
-        const double *values = run_at(w, run);
-        int64_t *to = row ? row : w->costs + run * length;
-        *tails |= w->q.type == 'd' ? write_floats(w, values, length, rounder, to)
-                                   : write_whole(w, (const uint64_t *)values, length, to);
-        for (size_t i = 0; row && i < length; i++) w->costs[i * w->width + run] = row[i];
+    if (!w->by_columns) {
+        for (size_t run = 0, length = run_length(w); run < runs_of(w); run++)
+            *tails |= write_run(w, run, length, rounder, w->costs + run * length);
+        return 0;
+    }
+    size_t rows = w->q.rows, length = w->q.columns;
+    int64_t *block = block_of(&w->shop->level, LINE * length * 8);
+    if (!block) return SIGDORF_MEMORY;
+    for (size_t row = 0; row < rows; row += LINE) {
+        size_t count = rows - row < LINE ? rows - row : LINE;
+        for (size_t k = 0; k < count; k++) *tails |= write_run(w, row + k, length, rounder, block + k * length);
+        turn_rows(block, count, length, w->width, w->costs + row);
     }
     return 0;
 }
@@ -397,7 +436,7 @@ int write_costs(job *w) {
     if (!w->is_small && is_float) take_unit(w);
     if (!w->is_small && !is_float) take_whole_unit(w);
     int shift = w->is_small ? 0 : shift_of(w->unit);
-    w->scale = ldexp(1, shift), w->grow = ldexp(1, -shift), w->back = ldexp(1, shift - w->unit);
+    w->scale = by_power(1, shift), w->grow = by_power(1, -shift), w->back = by_power(1, shift - w->unit);
     double rounder = rounder_of(w->unit);
     uint64_t tails = 0;
     /* Small ones too, in whole units from 0. What ran under as it was read would be no tail there. */

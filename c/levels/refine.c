@@ -27,7 +27,7 @@ typedef struct {
     double first, second;
 } power;
 
-static power power_of(int exponent) { return (power){ldexp(1, exponent / 2), ldexp(1, exponent - exponent / 2)}; }
+static power power_of(int exponent) { return (power){by_power(1, exponent / 2), by_power(1, exponent - exponent / 2)}; }
 static double times(double value, power by) { return value * by.first * by.second; }
 
 static size_t count_of(const level *l) { return l->first[l->persons]; }

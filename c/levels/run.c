@@ -1,3 +1,5 @@
+/* For madvise beside what C has. */
+#define _DEFAULT_SOURCE
 /* Runs a problem: its memory, the library's call in whole units, and what is made of its answer. */
 #include <math.h>
 #include <stdlib.h>
@@ -5,19 +7,39 @@
 #ifdef __SSE2__
 #include <xmmintrin.h>
 #endif
+#ifdef __linux__
+#include <sys/mman.h>
+#endif
 
 #include "levels.h"
 
 /* Tables with fewer entries, gaps among them, are solved as tables. */
 #define FEWEST_LISTED 2500
+/* Blocks of so many bytes and more are of large pages, where there are such ones. It is the number of numpy, by which
+ * a table of 5,000 rows and columns took 0.8 of the time. */
+#define FEWEST_FOR_LARGE_PAGES ((size_t)1 << 22)
+#define SMALL_PAGE 4096
 
 /* ---- Working memory */
+
+/* Asks for large pages, as numpy does: the system fills a new block page by page, which takes as long as two passes. */
+static void ask_for_large_pages(void *block, size_t bytes) {
+#ifdef MADV_HUGEPAGE
+    if (!block || bytes < FEWEST_FOR_LARGE_PAGES) return;
+    uintptr_t from = ((uintptr_t)block + SMALL_PAGE - 1) / SMALL_PAGE * SMALL_PAGE;
+    /* Where there are none, nothing changes. */
+    (void)madvise((void *)from, (uintptr_t)block + bytes - from, MADV_HUGEPAGE);
+#else
+    (void)block, (void)bytes;
+#endif
+}
 
 void *block_of(room *r, size_t bytes) {
     if (r->block && r->bytes >= bytes) return r->block;
     free(r->block);
     r->block = malloc(bytes);
     r->bytes = r->block ? bytes : 0;
+    ask_for_large_pages(r->block, bytes);
     return r->block;
 }
 

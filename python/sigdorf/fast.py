@@ -16,7 +16,7 @@ from .waiting import call_waiting
 from .whole import priced
 
 # A call of a table with fewer entries, or of a list with fewer, ends so soon that a thread of its own isn't worth its time.
-FEWEST, FEWEST_LISTED = 1 << 16, 1 << 13
+FEWEST, FEWEST_LISTED = 1 << 18, 1 << 15
 # That of the extension of these sources; one that was built of others isn't used.
 INTERFACE = 10
 ARRAY = numpy.ndarray
@@ -92,9 +92,10 @@ def found_of_small(table, maximize, wants_prices, bids):
     """What :func:`found` answers of a caller's array, if that is small and the words are plain, and else False: a plain one isn't looked at by Python at all."""
     if _extension is None or table.size >= FEWEST or bids is not USUAL_BIDS or not (maximize is False or maximize is True):
         return False
-    kind = table.dtype
-    is_plain = (kind is FLOAT or kind is WHOLE) and table.flags.c_contiguous
-    return _extension.found(table if is_plain else plain(table), maximize, wants_prices, None, None, bids)
+    answer = _extension.found(table, maximize, wants_prices, None, None, bids)
+    if answer is None and (made := plain(table)) is not table:
+        answer = _extension.found(made, maximize, wants_prices, None, None, bids)
+    return answer
 
 
 def found_under_limits(tables, limits, maximize, bids, watch=None):

@@ -1,10 +1,10 @@
 -- The result of a path that a search has proposed, once it was tried.
-use Rattle.std.proofs.Common.{ℕ, ℤ, pos, ◌+◌, ◌<◌, ◌≤◌, ◌≡◌, ◌≢◌, arith, Contains, List, length, get_or, set, inl, inr, ap, sym, subst, ◌∙◌}
+use Rattle.std.proofs.Common.{ℕ, zero, suc, ℤ, pos, ◌+◌, ◌<◌, ◌≡◌, ◌≢◌, arith, Contains, List, length, set, inl, inr, ap, refl, sym, subst, ◌∙◌}
 use Rattle.std.specs.Prelude.{All, ◌⊎◌, ◌-ℤ◌, ◌≤ℤ◌}
 use Rattle.std.proofs.lemmas.Bool.{cases_eq}
 use Rattle.std.proofs.lemmas.Int.{ints}
-use Rattle.std.proofs.lemmas.List.{get_or_default, get_or-set_same, get_or-set_other, length-set, same_lists, set-get_or}
-use Rattle.std.proofs.lemmas.List.Elements.{All-contains, All-from_get_or, All-get_or}
+use Rattle.std.proofs.lemmas.List.{get_or-set_same, get_or-set_other, length-set, set-get_or, set-set}
+use Rattle.std.proofs.lemmas.List.Elements.{All-contains, All-get_or, All-set}
 use Rattle.auc_graph.specs.Dual.{price_at}
 use Rattle.auc_graph.specs.Price.{IsPrice}
 use Rattle.auc_rows.specs.declared.arc.ShortArc.{ShortArc}
@@ -12,7 +12,7 @@ use Rattle.auc_rows.specs.Rows.{FlatTable, IsFlatTable, IsShort, flat_row_of, sc
 use Rattle.auc_letters.specs.declared.limits.TheConstants.{NOBODY}
 use Rattle.auc_market.specs.declared.search.Rise.{Rise}
 use Rattle.auc_market.specs.Market.{AreHigher, AreSpare, AreUnsold, IsSlack, Stands, holder_at, no_own, own_at}
-use Rattle.auc_market.specs.Path.{AreRaised, AreRises, AreTakenBack, AreWithin, HasRisen, IsRise, IsWithin}
+use Rattle.auc_market.specs.Path.{AreRaised, AreWithin, IsAmong, IsRise, IsWithin, no_rise, rise_at, set_back}
 use Rattle.auc_market.specs.Scan.{short_value}
 use Rattle.auc_market.specs.Starts.{any_eps}
 use Rattle.auc_market.specs.Augmented.{IsAugmented}
@@ -26,49 +26,107 @@ slack_of r eps prices i s scale least row e f listed l all =
     let own : least ≡ (short_value (scale_in r) prices s -ℤ eps) = l ∙ ap (λ (z : ℤ). short_value z prices s -ℤ eps) e in
     record { listed = listed; least = λ k d lt. (let a = mine k d lt in omega (arith, ints, a, own)) }
 
--- ---- prices may rise
-
--- one more price may rise
-pub noted_more : (prices : List ℤ) (holders : List ℕ) (rises : List Rise) (n : ℕ) (rise : Rise) → n < length rises → ((m : ℕ) (d : Rise) → m < n → IsRise prices holders (get_or rises m d)) → IsRise prices holders rise → (m : ℕ) (d : Rise) → m < n + 1 → IsRise prices holders (get_or (set rises n rise) m d)
-noted_more prices holders rises n rise room below is m d lt =
-    elim (cases_eq m n) [
-      | inl same ↦ subst (IsRise prices holders) (sym (ap (λ (i : ℕ). get_or (set rises n rise) i d) same ∙ get_or-set_same rises n rise d room)) is
-      | inr ne ↦ subst (IsRise prices holders) (sym (get_or-set_other rises n m rise d ne)) (below m d (omega (arith, lt, ne)))
-    ]
-
 -- ---- prices rise
 
-module _ (prices : List ℤ) (holders : List ℕ) (rises : List Rise) (are : AreRises prices holders rises) where
-  is_rise : (rise : Rise) → Contains rises rise → IsRise prices holders rise
-  is_rise rise listed = All-contains (IsRise prices holders) rises rise are listed
+-- only the first n of these count
+set_back_same : (n : ℕ) (these those : List Rise) → ((m : ℕ) → m < n → rise_at these m ≡ rise_at those m) → (prices : List ℤ) → set_back n these prices ≡ set_back n those prices
+set_back_same zero these those same prices = refl
+set_back_same (suc n) these those same prices =
+    ap (λ (r : Rise). set_back n these (set prices r.object r.amount)) (same n (omega arith)) ∙ set_back_same n these those (λ m lt. same m (omega (arith, lt))) (set prices (rise_at those n).object (rise_at those n).amount)
 
-  module _ (r : FlatTable) (eps : ℤ) (new : List ℤ) (owns : List ShortArc) (sound : IsFlatTable r) (stands : Stands r eps prices holders owns) (raised : AreRaised prices new rises) where
-    pub raised_higher : AreHigher prices new
-    raised_higher k = by (raised.each k)
-      where
-        by : HasRisen prices new rises k → price_at prices k ≤ℤ price_at new k
-        by (inl same) = omega (arith, ints, same)
-        by (inr x) = let is = is_rise x.0 x.1 in let b = is.before ∙ ap (price_at prices) x.2 in let m = is.more in let e = x.3 in omega (arith, ints, b, m, e)
+module _ (prices now : List ℤ) (holders : List ℕ) (rises : List Rise) (n : ℕ) (raised : AreRaised prices now holders rises n) (may : IsRise prices holders (rise_at rises n)) (lt : n < length rises) where
+  abbrev object : ℕ
+  object = (rise_at rises n).object
 
-    price_after : (k : ℕ) → k < length new → IsPrice (price_at new k)
-    price_after k lt = by (raised.each k)
-      where
-        by : HasRisen prices new rises k → IsPrice (price_at new k)
-        by (inl same) = subst IsPrice (sym same) (All-get_or IsPrice prices k (pos 0) (let m = raised.many in omega (arith, lt, m)) stands.within)
-        by (inr x) = let is = is_rise x.0 x.1 in let old = All-get_or IsPrice prices x.0.object (pos 0) is.known stands.within in let b = is.before in let m = is.more in let h = is.most in let e = x.3 in let l = old.low in record { low = omega (arith, ints, b, m, e, l); high = omega (arith, ints, e, h) }
+  -- the rise with the price before it in place of the amount
+  abbrev noted : Rise
+  noted = record { object = (rise_at rises n).object; amount = price_at now (rise_at rises n).object }
 
-    within_after : All IsPrice new
-    within_after = All-from_get_or IsPrice new (pos 0) price_after
+  abbrev new : List ℤ
+  new = set now (rise_at rises n).object (rise_at rises n).amount
 
+  abbrev left : List Rise
+  left = set rises n (record { object = (rise_at rises n).object; amount = price_at now (rise_at rises n).object })
+
+  room : object < length now
+  room = let k = may.known in let m = raised.many in omega (arith, k, m)
+
+  at_last : rise_at left n ≡ noted
+  at_last = get_or-set_same rises n noted no_rise lt
+
+  off : (k : ℕ) → k ≢ object → price_at new k ≡ price_at now k
+  off k ne = get_or-set_other now object k (rise_at rises n).amount (pos 0) ne
+
+  higher : AreHigher prices new
+  higher k =
+      elim (cases_eq k object) [
+        | inl same ↦ (
+            let e : price_at new k ≡ (rise_at rises n).amount = ap (price_at new) same ∙ get_or-set_same now object (rise_at rises n).amount (pos 0) room in
+            let was : price_at prices k ≡ price_at prices object = ap (price_at prices) same in
+            let more = may.more in
+            omega (arith, ints, e, was, more)
+            )
+        | inr ne ↦ (let e = off k ne in let h = raised.higher k in omega (arith, ints, e, h))
+      ]
+
+  within : All IsPrice prices → All IsPrice new
+  within all = All-set IsPrice now object (rise_at rises n).amount (
+      let low = (All-get_or IsPrice prices object (pos 0) may.known all).low in
+      let more = may.more in
+      let most = may.most in
+      record { low = omega (arith, ints, low, more); high = omega (arith, ints, most) }
+      ) (raised.within all)
+
+  each : (k : ℕ) → (price_at new k ≡ price_at prices k) ⊎ IsAmong holders left (n + 1) k
+  each k =
+      elim (cases_eq k object) [
+        | inl same ↦ inr (record {
+          held = λ none. may.held (ap (holder_at holders) (sym same) ∙ none);
+          place = n;
+          below = omega arith;
+          object = ap (λ (r : Rise). r.object) at_last ∙ sym same;
+        })
+        | inr ne ↦ by ne (raised.each k)
+      ]
+    where
+      by : k ≢ object → (price_at now k ≡ price_at prices k) ⊎ IsAmong holders rises n k → (price_at new k ≡ price_at prices k) ⊎ IsAmong holders left (n + 1) k
+      by ne (inl same) = inl (off k ne ∙ same)
+      by ne (inr among) = inr (record {
+        held = among.held;
+        place = among.place;
+        below = let b = among.below in omega (arith, b);
+        object = ap (λ (r : Rise). r.object) (get_or-set_other rises n among.place noted no_rise (λ e. (let b = among.below in omega (arith, b, e)))) ∙ among.object;
+      })
+
+  -- one more price has risen
+  pub raised_next : AreRaised prices new holders left (n + 1)
+  raised_next = record { many = length-set now object (rise_at rises n).amount ∙ raised.many; higher = higher; within = within; each = each }
+
+  -- and is set back first
+  pub set_back_next : set_back (n + 1) left new ≡ set_back n rises now
+  set_back_next =
+      let one : n + 1 ≡ suc n = omega arith in
+      ap (λ (m : ℕ). set_back m left new) one
+      ∙ (ap (λ (r : Rise). set_back n left (set new r.object r.amount)) at_last
+      ∙ (ap (set_back n left) (set-set now object (rise_at rises n).amount (price_at now object) ∙ set-get_or now object (pos 0)) ∙ set_back_same n left rises (λ m below. get_or-set_other rises n m noted no_rise (λ e. omega (arith, below, e))) now))
+
+-- one more price is set back
+pub set_back_on : (n left : ℕ) (rises : List Rise) (prices now : List ℤ) → n ≡ left + 1 → now ≡ set prices (rise_at rises left).object (rise_at rises left).amount → set_back left rises now ≡ set_back n rises prices
+set_back_on n left rises prices now one is =
+    let next : left + 1 ≡ suc left = omega arith in
+    ap (set_back left rises) is ∙ ap (λ (m : ℕ). set_back m rises prices) (sym (one ∙ next))
+
+module _ (prices new : List ℤ) (holders : List ℕ) (rises : List Rise) (raised : AreRaised prices new holders rises (length rises)) where
+  pub raised_unsold : AreUnsold prices holders → AreUnsold new holders
+  raised_unsold unheld k nobody = by (raised.each k)
+    where
+      by : (price_at new k ≡ price_at prices k) ⊎ IsAmong holders rises (length rises) k → price_at new k ≡ pos 0
+      by (inl same) = same ∙ unheld k nobody
+      by (inr among) = absurd (among.held nobody)
+
+  module _ (r : FlatTable) (eps : ℤ) (owns : List ShortArc) (sound : IsFlatTable r) (stands : Stands r eps prices holders owns) where
     many_after : length new ≡ r.objects
     many_after = raised.many ∙ stands.prices_are
-
-    pub raised_unsold : AreUnsold prices holders → AreUnsold new holders
-    raised_unsold unheld k nobody = by k nobody (raised.each k)
-      where
-        by : (k : ℕ) → holder_at holders k ≡ NOBODY → HasRisen prices new rises k → price_at new k ≡ pos 0
-        by k nobody (inl same) = same ∙ unheld k nobody
-        by k nobody (inr x) = absurd ((is_rise x.0 x.1).held (ap (holder_at holders) x.2 ∙ nobody))
 
     spare_by : AreSpare r prices holders → AreSpare r new holders
     spare_by (inl square) = inl square
@@ -79,90 +137,30 @@ module _ (prices : List ℤ) (holders : List ℕ) (rises : List Rise) (are : Are
       prices_are = many_after;
       holders_are = stands.holders_are;
       owns_are = stands.owns_are;
-      within = within_after;
+      within = raised.within stands.within;
       spare = spare_by stands.spare;
       held = stands.held;
       holds = stands.holds;
-      slack = λ i some. any_slack r new i (own_at owns i) sound within_after many_after (stands.slack i some).listed;
+      slack = λ i some. any_slack r new i (own_at owns i) sound (raised.within stands.within) many_after (stands.slack i some).listed;
     }
 
     -- each holder of one of these objects satisfies epsilon-complementary slackness, and so does every other person as
     -- before
     pub raised_stands : AreWithin r eps new holders owns rises → Stands r eps new holders owns
-    raised_stands within = record {
+    raised_stands are = record {
       prices_are = many_after;
       holders_are = stands.holders_are;
       owns_are = stands.owns_are;
-      within = within_after;
+      within = raised.within stands.within;
       spare = spare_by stands.spare;
       held = stands.held;
       holds = stands.holds;
       slack = λ i some. by i some (raised.each (own_at owns i).object);
     }
       where
-        by : (i : ℕ) → (own_at owns i).object ≢ NOBODY → HasRisen prices new rises (own_at owns i).object → IsSlack r eps new i (own_at owns i)
-        by i some (inl same) = slack_rises r eps prices new i (own_at owns i) raised_higher same (stands.slack i some)
-        by i some (inr x) = subst (IsWithin r eps new owns) (ap (holder_at holders) x.2 ∙ stands.holds i some) (All-contains (λ (y : Rise). IsWithin r eps new owns (holder_at holders y.object)) rises x.0 within x.1) some
-
--- ---- and are taken back
-
-module _ (prices raised now : List ℤ) (holders : List ℕ) (rises : List Rise) (n : ℕ) (are : AreRises prices holders rises) (risen : AreRaised prices raised rises) (back : AreTakenBack prices raised now rises n) where
-  -- one more is taken back
-  module _ (rise : Rise) (lt : n < length rises) (here : (d : Rise) → get_or rises n d ≡ rise) where
-    abbrev new : List ℤ
-    new = set now rise.object rise.before
-
-    is : IsRise prices holders rise
-    is = subst (IsRise prices holders) (here rise) (are n rise lt)
-
-    room : rise.object < length now
-    room = let k = is.known in let m = risen.many in let e = back.many in omega (arith, k, m, e)
-
-    on : (k : ℕ) → k ≡ rise.object → price_at new k ≡ price_at prices k
-    on k e = ap (price_at new) e ∙ (get_or-set_same now rise.object rise.before (pos 0) room ∙ (is.before ∙ ap (price_at prices) (sym e)))
-
-    off : (k : ℕ) → k ≢ rise.object → price_at new k ≡ price_at now k
-    off k ne = get_or-set_other now rise.object k rise.before (pos 0) ne
-
-    by : (k : ℕ) → k ≢ rise.object → (price_at now k ≡ price_at raised k) ⊎ (price_at now k ≡ price_at prices k) → (price_at new k ≡ price_at raised k) ⊎ (price_at new k ≡ price_at prices k)
-    by k ne (inl e) = inl (off k ne ∙ e)
-    by k ne (inr e) = inr (off k ne ∙ e)
-
-    done_on : (m : ℕ) (d : Rise) → m < n + 1 → price_at new (get_or rises m d).object ≡ price_at prices (get_or rises m d).object
-    done_on m d l =
-        elim (cases_eq (get_or rises m d).object rise.object) [
-          | inl e ↦ on (get_or rises m d).object e
-          | inr ne ↦ (off (get_or rises m d).object ne ∙ back.done m d (
-              elim (cases_eq m n) [
-                | inl same ↦ absurd (ne (ap (λ (x : Rise). x.object) (ap (λ (i : ℕ). get_or rises i d) same ∙ here d)))
-                | inr other ↦ omega (arith, l, other)
-              ]
-              ))
-        ]
-
-    pub back_more : AreTakenBack prices raised new rises (n + 1)
-    back_more = record {
-      many = length-set now rise.object rise.before ∙ back.many;
-      either = λ k. elim (cases_eq k rise.object) [ inl e ↦ inr (on k e) | inr ne ↦ by k ne (back.either k) ];
-      done = done_on;
-    }
-
-  pub back_all : length rises ≤ n → now ≡ prices
-  back_all over = same_lists now prices (back.many ∙ risen.many) (λ k d lt. (
-      let m = risen.many in
-      let e = back.many in
-      get_or_default now k d (pos 0) lt ∙ (was k (risen.each k) (back.either k) ∙ sym (get_or_default prices k d (pos 0) (omega (arith, lt, m, e))))
-      ))
-    where
-      was : (k : ℕ) → HasRisen prices raised rises k → (price_at now k ≡ price_at raised k) ⊎ (price_at now k ≡ price_at prices k) → price_at now k ≡ price_at prices k
-      was k risen_k (inr same) = same
-      was k (inl same) (inl e) = e ∙ same
-      was k (inr x) (inl e) =
-          let listed = x.1 in
-          let at : get_or rises listed.0 x.0 ≡ x.0 = listed.2 in
-          let lt = listed.1 in
-          let is : (get_or rises listed.0 x.0).object ≡ k = ap (λ (y : Rise). y.object) at ∙ x.2 in
-          ap (price_at now) (sym is) ∙ (back.done listed.0 x.0 (omega (arith, lt, over)) ∙ ap (price_at prices) is)
+        by : (i : ℕ) → (own_at owns i).object ≢ NOBODY → (price_at new (own_at owns i).object ≡ price_at prices (own_at owns i).object) ⊎ IsAmong holders rises (length rises) (own_at owns i).object → IsSlack r eps new i (own_at owns i)
+        by i some (inl same) = slack_rises r eps prices new i (own_at owns i) raised.higher same (stands.slack i some)
+        by i some (inr among) = subst (IsWithin r eps new owns) (ap (holder_at holders) among.object ∙ stands.holds i some) (All-get_or (λ (y : Rise). IsWithin r eps new owns (holder_at holders y.object)) rises among.place no_rise among.below are) some
 
 -- ---- paths
 

@@ -37,7 +37,7 @@ impl Holdings {
     {
         let mut is_in = vec![in alloc; false; rows.persons() as usize]?;
         is_in[start as usize] = true;
-        for settled in &search.settled {
+        for settled in &search.rises {
             let holder = self.holder_of(settled.object) as usize;
             if holder < is_in.len() {
                 is_in[holder] = true;

@@ -66,7 +66,9 @@ impl Holdings {
         ensures taken { AreTaken (length owns.items) result.holders.items owns.items }
     {
         let Holdings {
-            prices, mut holders, ..
+            prices,
+            mut holders,
+            ..
         } = self;
         for person in 0..persons {
             let own = owns[person as usize];

@@ -1,12 +1,12 @@
 //! A free person takes an augmenting path that a search has proposed. The proposal is tried: prices rise only where
 //! each holder stays within eps of the best, and a person takes an object only where that keeps the person within eps.
 
-ghost use Rattle.std.specs.Prelude.{◌≡◌, ◌<◌, ℤ, List, IsTrue, length};
+ghost use Rattle.std.specs.Prelude.{◌≡◌, ◌<◌, IsTrue, length};
 ghost use Rattle.auc_letters.specs.Price.{IsEps};
 ghost use Rattle.auc_rows.specs.Rows.{IsFlatTable};
 ghost use Rattle.auc_letters.specs.declared.limits.TheConstants.{NOBODY};
 ghost use Rattle.auc_market.specs.Market.{AreHigher, AreUnsold, Stands, own_at};
-ghost use Rattle.auc_market.specs.Path.{AreRaised, AreRises, AreWithin};
+ghost use Rattle.auc_market.specs.Path.{AreRaised, AreRises, AreWithin, set_back};
 ghost use Rattle.auc_market.specs.Starts.{any_eps};
 ghost use Rattle.auc_market.specs.Augmented.{IsAugmented};
 
@@ -19,53 +19,54 @@ use auc_letters::NOBODY;
 use auc_rows::FlatRows;
 
 impl Holdings {
-    /// Notes the present prices. Returns whether each of these objects has a holder, and none of their prices would
-    /// fall or pass the greatest.
-    fn may_rise(&self, rises: &mut [Rise]) -> bool
-        ensures { IsTrue result → AreRises self.now.prices.items self.now.holders.items rises.new }
+    /// Whether each of these objects has a holder, and none of their prices would fall or pass the greatest.
+    fn may_rise(&self, rises: &[Rise]) -> bool
+        ensures { IsTrue result → AreRises self.now.prices.items self.now.holders.items rises.now }
     {
-        for place in 0..rises.len() {
-            let Rise { object, amount, .. } = rises[place];
+        for rise in rises {
+            let Rise { object, amount } = *rise;
             if object as usize >= self.prices.len() || self.holder_of(object) == NOBODY {
                 return false;
             }
-            let before = self.prices[object as usize];
-            if amount < before || MOST_PRICE < amount {
+            if amount < self.prices[object as usize] || MOST_PRICE < amount {
                 return false;
             }
-            rises[place] = Rise {
-                object,
-                amount,
-                before,
-            };
         }
         true
     }
 
-    /// Raises the prices.
-    fn raise(&mut self, rises: &[Rise])
-        requires { AreRises self.old.prices.items self.old.holders.items rises.now }
-        ensures raised { AreRaised self.old.prices.items self.new.prices.items rises.now }
+    /// Raises the prices, and notes in the place of each amount the price before.
+    fn raise(&mut self, rises: &mut [Rise])
+        requires { AreRises self.old.prices.items self.old.holders.items rises.old }
+        ensures raised { AreRaised self.old.prices.items self.new.prices.items self.old.holders.items rises.new
+            (length rises.new) }
+        ensures back { set_back (length rises.new) rises.new self.new.prices.items ≡ self.old.prices.items }
         ensures holders { self.new.holders.items ≡ self.old.holders.items }
         ensures owns { self.new.owns.items ≡ self.old.owns.items }
     {
-        for rise in rises {
-            self.prices[rise.object as usize] = rise.amount;
+        for place in 0..rises.len() {
+            let Rise { object, amount } = rises[place];
+            let before = self.prices[object as usize];
+            self.prices[object as usize] = amount;
+            rises[place] = Rise {
+                object,
+                amount: before,
+            };
         }
     }
 
-    /// Sets the prices back to what they were before they rose.
+    /// Sets the prices back to what was noted, the last one first.
     fn take_back(&mut self, rises: &[Rise])
-        ensures prices { (prices : List ℤ) → AreRises prices self.old.holders.items rises.now
-            → AreRaised prices self.old.prices.items rises.now → self.new.prices.items ≡ prices }
+        ensures prices { self.new.prices.items ≡ set_back (length rises.now) rises.now self.old.prices.items }
         ensures holders { self.new.holders.items ≡ self.old.holders.items }
         ensures owns { self.new.owns.items ≡ self.old.owns.items }
     {
-        for rise in rises {
-            if rise.object as usize >= self.prices.len() {
+        for done in 0..rises.len() {
+            let Rise { object, amount } = rises[rises.len() - (done + 1)];
+            if object as usize >= self.prices.len() {
                 continue;
             }
-            self.prices[rise.object as usize] = rise.before;
+            self.prices[object as usize] = amount;
         }
     }
 

@@ -12,37 +12,36 @@ use std::alloc::{AllocError, Global};
 use std::collections::BinaryHeap;
 
 /// `near` of the free person. `near` of an object is this less the length of the path to it: std's heap is a max-heap.
-const NEAREST: u64 = 4_611_686_018_427_387_904;
+const NEAREST: i64 = 4_611_686_018_427_387_904;
 
 /// `near` of an object that the search has not reached.
-const UNREACHED: u64 = 0;
+const UNREACHED: i64 = 0;
 
 /// An object and its `near`.
 #[derive(Clone, Copy)]
-pub(crate) struct Settled {
-    pub(crate) object: u32,
-    near: u64,
+struct Settled {
+    object: u32,
+    near: i64,
 }
 
 /// In place of the closest object that nobody holds, where none has a label.
 const NOWHERE: Settled = Settled {
     object: NOBODY,
-    near: 0,
+    near: UNREACHED,
 };
 
-/// A price that is to rise to an amount, and the price before.
+/// A price that is to rise to an amount. Of an object that is settled while a search goes on, `amount` is its `near`.
 #[derive(Clone, Copy)]
 pub(crate) struct Rise {
     pub(crate) object: u32,
     pub(crate) amount: i64,
-    pub(crate) before: i64,
 }
 
 /// A person at this distance, who would leave object `before` for another one.
 #[derive(Clone, Copy)]
 struct Taker {
     person: u32,
-    near: u64,
+    near: i64,
     before: u32,
 }
 
@@ -51,20 +50,18 @@ struct Taker {
 /// - the labels of all objects: `near`, and the object `before` that the taker would leave, NOBODY for the free person;
 /// - the heap of objects that are reached, the closest first;
 /// - the closest object that nobody holds;
-/// - the settled objects in order;
 /// - the number of arcs scanned.
 ///
 /// Each object that is reached is in the heap or settled. So the next search knows which labels to blank.
 ///
-/// And the proposal of a search: prices that rise, and the arcs by which objects are taken, each by its place in the
-/// row of its taker.
+/// And the proposal of a search: the settled objects in order, whose prices rise, and the arcs by which objects are
+/// taken, each by its place in the row of its taker.
 #[derive(Drop)]
 pub(crate) struct Search {
-    near: Vec<u64>,
+    near: Vec<i64>,
     before: Vec<u32>,
-    heap: BinaryHeap<(u64, u32)>,
+    heap: BinaryHeap<(i64, u32)>,
     end: Settled,
-    pub(crate) settled: Vec<Settled>,
     pub(crate) scanned: u64,
     pub(crate) rises: Vec<Rise>,
     pub(crate) route: Vec<u32>,
@@ -78,7 +75,6 @@ impl Search {
             before: Vec::new(alloc),
             heap: BinaryHeap::new(alloc),
             end: NOWHERE,
-            settled: Vec::new(alloc),
             scanned: 0,
             rises: Vec::new(alloc),
             route: Vec::new(alloc),
@@ -114,7 +110,7 @@ impl Search {
             let more = wrapping_value(scale, arc.cost, holdings.prices[object])
                 .wrapping_sub(own)
                 .max(0);
-            let near = taker.near.saturating_sub(more.unsigned_abs());
+            let near = taker.near.saturating_sub(more);
             if near <= self.end.near || near <= self.near[object] {
                 continue;
             }
@@ -150,14 +146,17 @@ impl Search {
             let Some(next) = self.next() else {
                 break;
             };
-            self.settled.push(next)?;
+            self.rises.push(Rise {
+                object: next.object,
+                amount: next.near,
+            })?;
             taker = Taker {
                 person: holdings.holder_of(next.object),
                 near: next.near,
                 before: next.object,
             };
         }
-        if self.end.near == 0 {
+        if self.end.near == UNREACHED {
             return Ok(false);
         }
         self.propose(rows, holdings, start)?;
@@ -171,7 +170,7 @@ impl Search {
                 self.near[*object as usize] = UNREACHED;
             }
         }
-        for settled in &self.settled {
+        for settled in &self.rises {
             if (settled.object as usize) < self.near.len() {
                 self.near[settled.object as usize] = UNREACHED;
             }
@@ -179,7 +178,6 @@ impl Search {
         self.near.resize(objects, UNREACHED)?;
         self.before.resize(objects, NOBODY)?;
         self.heap.clear();
-        self.settled.clear();
         self.rises.clear();
         self.route.clear();
         self.end = NOWHERE;
@@ -228,21 +226,19 @@ impl Search {
         holdings: &Holdings,
         start: u32,
     ) -> Result<(), AllocError> {
-        for settled in &self.settled {
-            let place = settled.object as usize;
-            if place >= holdings.prices.len() {
+        for place in 0..self.rises.len() {
+            let Rise { object, amount } = self.rises[place];
+            if object as usize >= holdings.prices.len() {
                 continue;
             }
-            let before = holdings.prices[place];
-            let rise = i64::try_from(settled.near.saturating_sub(self.end.near)).unwrap_or(0);
-            self.rises.push(Rise {
-                object: settled.object,
-                amount: before.wrapping_add(rise),
-                before,
-            })?;
+            let before = holdings.prices[object as usize];
+            self.rises[place] = Rise {
+                object,
+                amount: before.wrapping_add(amount.wrapping_sub(self.end.near)),
+            };
         }
         let mut object = self.end.object;
-        for _ in 0..=self.settled.len() {
+        for _ in 0..=self.rises.len() {
             if object as usize >= self.before.len() {
                 break;
             }

@@ -12,7 +12,7 @@ use auc_claim::{Cert, CertParts};
 use auc_graph::ArcList;
 
 /// Writes numbers to the front.
-fn put_front(numbers: &[u32], target: &mut [u32])
+pub fn put_front(numbers: &[u32], target: &mut [u32])
     requires { length numbers.now ≤ length target.old }
     ensures front { take (length numbers.now) target.new ≡ numbers.now }
     ensures after { drop (length numbers.now) target.new ≡ drop (length numbers.now) target.old }

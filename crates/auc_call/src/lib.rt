@@ -2,7 +2,8 @@
 //!
 //! [`solve_call`], [`solve_by_messages_call`], [`check_call`] and [`check_hall_call`] are what the crate `sigdorf_c`
 //! exports. Each says by its status which of its promises holds of what it has written. No call keeps anything after
-//! its return. Of [`solve_problem`] and [`tell_solved`] the crate `auc_dense` makes the call over a table.
+//! its return. Of [`solve_problem`], [`put_front`] and [`tell_solved`] the crate `auc_dense` makes the call over a
+//! table.
 #![tactic(auto)]
 
 mod calls;
@@ -26,6 +27,7 @@ pub use calls::{check_call, check_hall_call, solve_by_messages_call, solve_call}
 pub use driver::Driver;
 pub use found::Found;
 pub use given::{GivenArcs, Run};
+pub use handing::put_front;
 pub use solved::{Failed, Solved};
 pub use solving::solve_problem;
 pub use start::{StartFault, prices_fault};

@@ -12,7 +12,7 @@ ghost use Rattle.auc_dense.specs.Tried.{IsGiven};
 
 use crate::reaching::reached_persons;
 use crate::table::row_of;
-use auc_call::Solved;
+use auc_call::{Solved, put_front};
 use auc_hall::places_of;
 use auc_table::{Proposal, Table};
 use std::alloc::{AllocError, Global};
@@ -93,15 +93,6 @@ pub(crate) fn find_shortage(
         return Ok(None);
     }
     Ok(Some(Shortage { persons, objects }))
-}
-
-/// Writes numbers to the front.
-fn put_front(numbers: &[u32], target: &mut [u32])
-    requires { length numbers.now ≤ length target.old }
-    ensures front { take (length numbers.now) target.new ≡ numbers.now }
-    ensures after { drop (length numbers.now) target.new ≡ drop (length numbers.now) target.old }
-{
-    target[..numbers.len()].copy_from_slice(numbers);
 }
 
 /// Writes the persons of a shortage to the front of `choice`, and its objects to the front of `set`.

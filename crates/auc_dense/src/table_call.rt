@@ -30,9 +30,10 @@ use std::alloc::Global;
 /// Where there are too few bids for the search, and no start, exactly so many are made from prices of 0, at one unit of
 /// cost. Their prices give the bound, and the assignment is filled up by a few passes over the table and by paths.
 ///
-/// With a start and too few bids, or where these give each person an object, the arcs are written out and solved. That
-/// takes the time and memory of [`auc_call::solve_call`], but for its copy of the arcs, which is the only one here: 16
-/// bytes for each entry that is no gap.
+/// With a start and too few bids the arcs are written out and solved. So they are where the bids give each person an
+/// object, where all costs are the same, and where a price would be too high. That takes the time and memory of
+/// [`auc_call::solve_call`], but for its copy of the arcs, which is the only one here: 16 bytes for each entry that is
+/// no gap.
 ///
 /// `run.watch` is asked within the search after about as many entries as the direct solver scans between two questions
 /// ([`auc_call::Pausing`]), at its end, and as [`auc_call::solve_call`] says while the arcs are solved; not while the

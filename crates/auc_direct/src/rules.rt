@@ -10,15 +10,15 @@
 //!    can be reached, the persons reached are a Hall violator.
 //! 4. **Phases** (epsilon scaling). Columns are reduced. Eps begins at the mean spread of a row divided by the mean
 //!    number of its arcs, and is divided by 8 from phase to phase. Prices stay, and nobody keeps an object.
-//! 5. **Apart, ties, too fine, or calm.** Where nineteen persons in twenty of a sample have the cheapest arc of some
-//!    object, persons hold what is best for them at the reduced columns before any bid, and the last phase is tried
-//!    first. Of points in order along a line nearly all hold something then. So it is tried where most rows have two
-//!    best arcs of the same value. After three bids a person it is given up where more than one person in twenty is
-//!    free: bids that met free objects by chance would leave so many. Else it may make a bid a person more for each
-//!    halving of the spread of all costs. The first phase is given up once it has made more bids for each person than
-//!    eps can be halved before it is 1. Eps then begins anew, at the mean spread of a row divided by the square root of
-//!    the mean number of its arcs. After a phase of fewer than two bids a person the last phase is tried at once. It
-//!    may make a bid a person for each phase from there on.
+//! 5. **Apart, ties, too fine, or calm.** Where nineteen persons in twenty of a sample have the cheapest arc of
+//!    some object, persons hold what is best for them at the reduced columns before any bid, and the last phase is
+//!    tried first. So it is tried where most rows have two best arcs of the same value. After three bids a person
+//!    it is given up where more than one person in twenty is free: bids that met free objects by chance would leave
+//!    so many. Else it may make a bid a person more for each halving of the spread of all costs. The first phase is
+//!    given up once it has made more bids for each person than eps can be halved before it is 1. Eps then begins
+//!    anew, at the mean spread of a row divided by the square root of the mean number of its arcs. After a phase of
+//!    fewer than two bids a person the last phase is tried at once. It may make a bid a person for each phase from
+//!    there on.
 //! 6. **More objects than persons.** One phase at the last eps, from prices of 0, since an object that nobody holds has
 //!    to have price 0.
 
@@ -44,11 +44,6 @@ fn divisions(eps: i64, divisor: i64) -> u64 {
     many
 }
 
-/// How often eps is halved until it is 1.
-fn halvings(eps: i64) -> u64 {
-    divisions(eps, 2)
-}
-
 /// So many bids for each person, in an attempt that is given up after them.
 fn attempt_of(rows: &FlatRows, bids: u64) -> Attempt {
     Attempt {
@@ -65,7 +60,7 @@ fn for_each(rows: &FlatRows, bids: u64) -> u64 {
 
 /// The first phase, at this eps.
 pub(crate) fn attempt_of_first(rows: &FlatRows, eps: i64) -> Attempt {
-    attempt_of(rows, halvings(eps).max(1))
+    attempt_of(rows, divisions(eps, 2).max(1))
 }
 
 /// The last phase before its turn: after a phase of `made` bids and before a phase at this eps.
@@ -84,7 +79,7 @@ pub(crate) fn attempt_with_ties(rows: &FlatRows, are_there: bool) -> Attempt {
     Attempt {
         bids: for_each(rows, TIES_BIDS_PER_PERSON),
         free: rows.persons() / FREE_DIVISOR,
-        more: for_each(rows, halvings(rows.scale().saturating_mul(rows.spread()))),
+        more: for_each(rows, divisions(rows.scale().saturating_mul(rows.spread()), 2)),
     }
 }
 

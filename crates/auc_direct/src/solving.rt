@@ -184,10 +184,11 @@ fn concluded(
 /// Memory beside the problem's own:
 ///
 /// - The search for an assignment of any cost takes 12 bytes an arc.
-/// - Else the rows take 8 bytes an arc, and some 60 bytes an object are taken.
+/// - Else the rows take 8 bytes an arc, and some 50 bytes an object are taken.
 /// - Candidate lists take 176 bytes a person where most arcs are in rows of 48 and more.
 /// - A full table takes 8 bytes an arc more while it is searched.
-/// - Each label that waits in a search for a path takes 16 bytes; there are at most as many as arcs.
+/// - In a search for a path each settled object takes 16 bytes, and so does each entry of its heap; there are at most
+///   as many as arcs.
 ///
 /// No clause says that paths are taken at all, nor that lists are.
 ///

@@ -11,8 +11,8 @@ use auc_letters::NOBODY;
 use auc_rows::ShortArc;
 use std::mem;
 
-/// The own arc of each person, indexed by person, and whether each person had an object. What it shows of the least cost
-/// is for a watch.
+/// The own arc of each person, indexed by person, and whether each person had an object. What it shows of the least
+/// cost is for a watch.
 #[derive(Drop)]
 pub(crate) struct Incumbent {
     pub(crate) owns: Vec<ShortArc>,

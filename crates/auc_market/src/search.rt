@@ -52,7 +52,7 @@ struct Taker {
 /// - the closest object that nobody holds;
 /// - the number of arcs scanned.
 ///
-/// Each object that is reached is in the heap or settled. So the next search knows which labels to blank.
+/// Each object that is reached is in the heap or settled. So the next search blanks no other label.
 ///
 /// And the proposal of a search: the settled objects in order, whose prices rise, and the arcs by which objects are
 /// taken, each by its place in the row of its taker.
@@ -136,25 +136,34 @@ impl Search {
         start: u32,
     ) -> Result<bool, AllocError> {
         self.begin(rows.objects() as usize)?;
-        let mut taker = Taker {
+        let first = Taker {
             person: start,
             near: NEAREST,
             before: NOBODY,
         };
+        self.relax(rows, holdings, first)?;
         for _ in 0..u64::MAX {
-            self.relax(rows, holdings, taker)?;
-            let Some(next) = self.next() else {
+            let Some((near, object)) = self.heap.peek().copied() else {
                 break;
             };
+            if near <= self.end.near {
+                break;
+            }
+            let _ = self.heap.pop();
+            // An object whose label was improved since then had an entry before this one.
+            if object as usize >= self.near.len() || self.near[object as usize] != near {
+                continue;
+            }
             self.rises.push(Rise {
-                object: next.object,
-                amount: next.near,
+                object,
+                amount: near,
             })?;
-            taker = Taker {
-                person: holdings.holder_of(next.object),
-                near: next.near,
-                before: next.object,
+            let next = Taker {
+                person: holdings.holder_of(object),
+                near,
+                before: object,
             };
+            self.relax(rows, holdings, next)?;
         }
         if self.end.near == UNREACHED {
             return Ok(false);
@@ -183,23 +192,6 @@ impl Search {
         self.end = NOWHERE;
         self.scanned = 0;
         Ok(())
-    }
-
-    /// The closest object in the heap; none where no object in it is closer than the closest one that nobody holds.
-    fn next(&mut self) -> Option<Settled> {
-        for _ in 0..u64::MAX {
-            let (near, object) = *self.heap.peek()?;
-            if near <= self.end.near {
-                return None;
-            }
-            let _ = self.heap.pop();
-            // An object whose label was improved since then has an entry before this one.
-            let place = object as usize;
-            if place < self.near.len() && self.near[place] == near {
-                return Some(Settled { object, near });
-            }
-        }
-        None
     }
 
     /// The place, in a person's row, of the cheapest arc to an object; NOBODY where there is none.

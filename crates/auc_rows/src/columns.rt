@@ -6,7 +6,8 @@ use std::alloc::{AllocError, Global};
 /// Of an object with no arc: above all costs.
 const UNKNOWN: i32 = 2_147_483_647;
 
-/// For each object the least cost of the arcs that lead to it. It is taken while rows are built, and not kept with them.
+/// For each object the least cost of the arcs that lead to it. It is taken while rows are built, and not kept with
+/// them.
 #[derive(Drop)]
 pub struct Columns {
     least: Vec<i32>,

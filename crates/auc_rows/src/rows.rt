@@ -64,8 +64,9 @@ impl FlatRows {
     ghost use Rattle.std.specs.Prelude.{IsTrue};
     ghost use Rattle.auc_rows.specs.Rows.{EachHasArc, IsFlatTable, scale_in};
 
-    /// The rows of a problem; the columns take in each arc on the way. Takes O(arcs + persons) time, and 8 bytes of memory an arc and 8 a person; where the arcs
-    /// aren't in the order of their persons, 16 bytes more a person while it runs.
+    /// The rows of a problem; the columns take in each arc on the way. Takes O(arcs + persons) time, and 8 bytes of
+    /// memory an arc and 8 a person. Where the arcs aren't in the order of their persons, it takes 16 bytes more a
+    /// person while it runs.
     ///
     /// # Errors
     ///

@@ -237,7 +237,8 @@ fn complete_by<const G: bool>(
 }
 
 /// Gives each person who has nothing an object, by a few passes over the table and by paths. Each object that somebody
-/// holds is held still, if by another, and prices stay as they were. It is as [`propose`] ends after a no.
+/// holds is held still, if by another, unless its person leaves it since the entry is a gap. Prices stay as they were.
+/// It is as [`propose`] ends after a no.
 ///
 /// # Errors
 ///

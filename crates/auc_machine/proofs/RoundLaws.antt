@@ -28,7 +28,7 @@ plays_join g w (t ∷ ts) us u v a b (m, r, rest, turned, played, is) later =
 
 pub plays_schedule : (g : Phase) (w : World) (ts : List Turn) (moved : Bool) (v : World) → Plays g w ts moved v → Schedule g w ts v
 plays_schedule g w [] moved v (same, none) = same
-plays_schedule g w (t ∷ ts) moved v (m, r, rest, turned, played, is) = (m, r, turned, plays_schedule g m ts rest v played)
+plays_schedule g w (t ∷ ts) moved v (m, r, rest, turned, played, is) = record { mid = m; reply = r; turned = turned; rest = plays_schedule g m ts rest v played }
 
 -- ---- turns more at the end of those of a stage
 

@@ -50,14 +50,20 @@ record Hears (g : Phase) (w : World) : Type 0 where
   hub : world.hub_mail ≡ w.hub_mail
   end : world.end ≡ w.end
 
-keeps : (w : World) (l : Letter) → ((after_letter w 0 l).price ≡ w.price) × ((after_letter w 0 l).holder ≡ w.holder) × ((after_letter w 0 l).hub_mail ≡ w.hub_mail) × ((after_letter w 0 l).end ≡ w.end)
-keeps w (Letter.Award i j p) = (refl, refl, refl, refl)
-keeps w (Letter.Refused i j p) = (refl, refl, refl, refl)
-keeps w (Letter.Outbid i j p) = (refl, refl, refl, refl)
-keeps w (Letter.Price j p) = (refl, refl, refl, refl)
-keeps w (Letter.Bid i a j p) = (refl, refl, refl, refl)
-keeps w (Letter.First j) = (refl, refl, refl, refl)
-keeps w (Letter.Stop y) = (refl, refl, refl, refl)
+record KeepsSales (w v : World) : Type 0 where
+  price : v.price ≡ w.price
+  holder : v.holder ≡ w.holder
+  hub : v.hub_mail ≡ w.hub_mail
+  end : v.end ≡ w.end
+
+keeps : (w : World) (l : Letter) → KeepsSales w (after_letter w 0 l)
+keeps w (Letter.Award i j p) = record { price = refl; holder = refl; hub = refl; end = refl }
+keeps w (Letter.Refused i j p) = record { price = refl; holder = refl; hub = refl; end = refl }
+keeps w (Letter.Outbid i j p) = record { price = refl; holder = refl; hub = refl; end = refl }
+keeps w (Letter.Price j p) = record { price = refl; holder = refl; hub = refl; end = refl }
+keeps w (Letter.Bid i a j p) = record { price = refl; holder = refl; hub = refl; end = refl }
+keeps w (Letter.First j) = record { price = refl; holder = refl; hub = refl; end = refl }
+keeps w (Letter.Stop y) = record { price = refl; holder = refl; hub = refl; end = refl }
 
 module _ (g : Phase) (known : 0 < g.shards) (w : World) (reached : Reached g w) (nodes most k : ℕ) where
   hears_any : (ls : List Letter) → w.persons_mail ≡ one_box nodes most blank_lane (lane k ls) → Hears g w
@@ -71,7 +77,7 @@ module _ (g : Phase) (known : 0 < g.shards) (w : World) (reached : Reached g w) 
       let v : World = after_letter (record w { persons_mail = p1 }) 0 l in
       let turn : Turned g w (Turn.PersonTake 0) TurnReply.Moved v = PersonTakeTurn.hears 1 (k + 1) l p1 known takes fits.0 fits.1 refl refl in
       let same = keeps (record w { persons_mail = p1 }) l in
-      record { world = v; reply = TurnReply.Moved; turned = turn; reached = reached_turn g w v (Turn.PersonTake 0) TurnReply.Moved reached turn; price = same.0; holder = same.1; hub = same.2; end = same.3 }
+      record { world = v; reply = TurnReply.Moved; turned = turn; reached = reached_turn g w v (Turn.PersonTake 0) TurnReply.Moved reached turn; price = same.price; holder = same.holder; hub = same.hub; end = same.end }
 
 -- ---- a Stop
 
@@ -188,7 +194,7 @@ module _ (g : Phase) (one : g.shards ≡ 1) (start : World) (allowed most : ℕ)
   stops_at_ceiling i first some arc amount bids high =
       let left : w.bids_left 0 ≢ 0 = λ e. some (sym going.shows.bids ∙ e) in
       let there : IsBid (scale g) g.spread g.eps (w.copy 0) (g.row i) arc amount = (let same : w.copy 0 ≡ copy_in s.copies = (λ c k. going.shows.copy k c) in rw same bids) in
-      stop_ends i first Why.Ceiling (left, (arc, amount, there, high))
+      stop_ends i first Why.Ceiling (record { left = left; arc = arc; amount = amount; bid = there; above = high })
 
   -- ---- some person is free, or a notice waits for the persons
 

@@ -33,7 +33,7 @@ use Rattle.auc_world.proofs.SingleHearing.{HearEnds, fits, hearing}
 use Rattle.auc_world.proofs.SingleMails.{gives_nothing, notices_many}
 use Rattle.auc_world.proofs.SingleSales.{SaleEnds, bid_ends}
 use Rattle.auc_world.proofs.Distinct.{at_most, occurs_here}
-use Rattle.auc_machine.proofs.RoundLaws.{plays_join, two_plays}
+use Rattle.auc_machine.proofs.RoundLaws.{five_plays, plays_join, two_plays}
 
 -- the notices that wait for the persons fit the world
 pub record TellsRight (g : Phase) (s : SingleState) (t : Notice) : Type 0 where
@@ -103,7 +103,7 @@ module _ (g : Phase) (one : g.shards ≡ 1) (small : g.persons < nobody) (start 
         unended = unended going more;
         moved = false;
         world = w;
-        played = (w, TurnReply.Nothing, false, bid, (w, TurnReply.Nothing, false, post, (w, TurnReply.Nothing, false, take, (w, TurnReply.Nothing, false, answer, (w, TurnReply.Nothing, false, answer, (refl, refl), refl), refl), refl), refl), refl);
+        played = five_plays g w w w w w w (Turn.Bid 0) (Turn.PersonPost 0) (Turn.ObjectTake 0) (Turn.ObjectPost 0) (Turn.ObjectPost 0) TurnReply.Nothing TurnReply.Nothing TurnReply.Nothing TurnReply.Nothing TurnReply.Nothing bid post take answer answer;
         reached = going.reached;
         firsts = 0;
         few = omega arith;
@@ -121,7 +121,7 @@ module _ (g : Phase) (one : g.shards ≡ 1) (small : g.persons < nobody) (start 
       record {
         rounds = suc half.rounds;
         world = counts.world;
-        led = (half.before, moved, half.led, half.unended, subst (λ (n : ℕ). Plays g half.before (round_of n) moved counts.world) (sym one) whole);
+        led = record { mid = half.before; moved = moved; before = half.led; unended = half.unended; played = subst (λ (n : ℕ). Plays g half.before (round_of n) moved counts.world) (sym one) whole };
         reached = counts.reached;
         shows = counts.shows;
         end = counts.end;

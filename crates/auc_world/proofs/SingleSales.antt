@@ -36,6 +36,7 @@ use Rattle.auc_world.specs.declared.single_shard.notice.Notice.{Notice}
 use Rattle.auc_world.specs.SingleState.{SingleState, AreFirsts, AreNoticesOf, Shows, awarded, first_of, frees, lane, one_box, sale_at, sale_turns, sold, notices_of_sale}
 use Rattle.auc_machine.specs.Rounds.{Plays}
 use Rattle.auc_world.proofs.SingleMails.{answer_fits, answer_turn, first_turn, one_first, post_first, post_turn, room_for, step_at, take_first, notices_one}
+use Rattle.auc_machine.proofs.RoundLaws.{five_plays}
 
 -- ---- lists in place of functions
 
@@ -252,7 +253,7 @@ module _ (g : Phase) (one : g.shards ≡ 1) (allowed most : ℕ) (enough : 2 * a
 
   played_by : (w3 w4 w5 : World) (last : TurnReply) → Turned g w2 (Turn.ObjectTake 0) TurnReply.Moved w3 → Turned g w3 (Turn.ObjectPost 0) TurnReply.Moved w4 → Turned g w4 (Turn.ObjectPost 0) last w5 → Plays g w sale_turns true w5
   played_by w3 w4 w5 last take post again =
-      (w1, TurnReply.Moved, true, turn1, (w2, TurnReply.Moved, true, turn2, (w3, TurnReply.Moved, true, take, (w4, TurnReply.Moved, _, post, (w5, last, false, again, (refl, refl), refl), refl), refl), refl), refl)
+      five_plays g w w1 w2 w3 w4 w5 (Turn.Bid 0) (Turn.PersonPost 0) (Turn.ObjectTake 0) (Turn.ObjectPost 0) (Turn.ObjectPost 0) TurnReply.Moved TurnReply.Moved TurnReply.Moved TurnReply.Moved last turn1 turn2 take post again
 
   few_notices : k + length shows.mails.letters < most
   few_notices = let a = shows.mails.few_notices in omega (arith, a, left, enough)

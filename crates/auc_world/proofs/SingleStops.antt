@@ -1,6 +1,6 @@
 -- How a phase with one shard of each kind ends before each person has an object: by a Stop of the only person shard. It
 -- never stalls.
-use Rattle.std.proofs.Common.{ℕ, suc, ◌+◌, ◌*◌, ◌<◌, ◌≡◌, ◌≢◌, ◌^◌, refl, arith, true, false, List, [], ◌∷◌, Option, None, drop, length, inr, sym, ap, subst, ◌∙◌}
+use Rattle.std.proofs.Common.{ℕ, suc, ◌+◌, ◌*◌, ◌<◌, ◌≡◌, ◌≢◌, ◌^◌, refl, arith, true, List, [], ◌∷◌, Option, None, drop, length, inr, sym, ap, subst, ◌∙◌}
 use Rattle.std.specs.Prelude.{ℤ, pos, ◌<ℤ◌, ◌||◌}
 use Rattle.auc_graph.specs.Bid.{IsBid}
 use Rattle.auc_graph.specs.declared.rows.RowArc.{RowArc}
@@ -36,7 +36,7 @@ use Rattle.auc_world.specs.SinglePhase.{StopEnds}
 use Rattle.auc_machine.specs.Rounds.{Plays, has_moved, round_of}
 use Rattle.auc_world.proofs.SingleLaws.{not_ended}
 use Rattle.auc_world.proofs.SingleMails.{gives_nothing, post_first, post_turn, room_for, step_at, take_first, take_second, notices_many}
-use Rattle.auc_machine.proofs.RoundLaws.{plays_join, two_plays}
+use Rattle.auc_machine.proofs.RoundLaws.{five_plays, plays_join, two_plays}
 
 -- ---- what the persons hear leaves prices, holders, the hub's mail and the end
 
@@ -153,7 +153,7 @@ module _ (g : Phase) (one : g.shards ≡ 1) (start : World) (allowed most : ℕ)
     answer = PostTurn.no_letter (inr going.shows.object_out) refl refl
 
     sale : Plays g w sale_turns true w2
-    sale = (w1, TurnReply.Moved, true, turn1, (w2, TurnReply.Moved, false, turn2, (w2, TurnReply.Nothing, false, take, (w2, TurnReply.Nothing, false, answer, (w2, TurnReply.Nothing, false, answer, (refl, refl), refl), refl), refl), refl), refl)
+    sale = five_plays g w w1 w2 w2 w2 w2 (Turn.Bid 0) (Turn.PersonPost 0) (Turn.ObjectTake 0) (Turn.ObjectPost 0) (Turn.ObjectPost 0) TurnReply.Moved TurnReply.Moved TurnReply.Nothing TurnReply.Nothing TurnReply.Nothing turn1 turn2 take answer answer
 
     heard : Hears g w2
     heard = hears_any g known w2 reached2 (4 * g.persons) most going.shows.mails.heard going.shows.mails.letters going.shows.mails.persons
@@ -178,7 +178,7 @@ module _ (g : Phase) (one : g.shards ≡ 1) (start : World) (allowed most : ℕ)
         record {
           rounds = suc going.rounds;
           world = w4;
-          led = (w, moved, going.led, unended, subst (λ (n : ℕ). Plays g w (round_of n) moved w4) (sym one) whole);
+          led = record { mid = w; moved = moved; before = going.led; unended = unended; played = subst (λ (n : ℕ). Plays g w (round_of n) moved w4) (sym one) whole };
           reached = reached_turn g heard.world w4 Turn.HubTake TurnReply.Moved heard.reached turn4;
           end = ap (λ (e : Option End). first_end e (End.Stopped why)) (heard.end ∙ unended);
           price = λ j. ap (λ (f : ℕ → ℤ). f j) heard.price ∙ going.shows.price j;

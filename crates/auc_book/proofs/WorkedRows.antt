@@ -47,7 +47,7 @@ second = record { worker = 1; count = 1; turned_away = 0; lines = post_line 1 6 
 
 -- each call is a call of its worker
 pub posts : Calls (new_state 1 2 4 9 3) 0 (Post 0 0 5 0) (Some (Posted 1)) (state_after (two_lanes (lane 0 (5 ∷ [])) (lane 0 [])) 1 (post_line 0 5 ∷ []))
-posts = (λ full. absurd (⊎_elim (λ f. omega (arith, f.1)) (λ f. omega (arith, f)) full), ((omega arith, omega arith), refl, omega arith, omega arith, refl, refl), refl, refl, refl)
+posts = (λ full. absurd (⊎_elim (λ f. omega (arith, f.1)) (λ f. omega (arith, f)) full), record { lane = (omega arith, omega arith); accepts = refl; left = omega arith; free = omega arith; number = refl; next = refl }, refl, refl, refl)
 
 -- at the fourth call no place is left, and nothing changes
 pub no_place : Calls (state_after (two_lanes (lane 1 []) (lane 0 (6 ∷ []))) 3 three_lines) 1 (Take 0) None (state_after (two_lanes (lane 1 []) (lane 0 (6 ∷ []))) 3 three_lines)
@@ -55,19 +55,19 @@ no_place = (inl (omega arith, omega arith), refl)
 
 -- the trail is a run
 pub trail_runs : Run (empty_mail 1 2 4 9) (events_of three_lines) (two_lanes (lane 1 []) (lane 0 (6 ∷ [])))
-trail_runs = (
-  two_lanes (lane 0 (5 ∷ [])) (lane 0 []),
-  ((omega arith, omega arith), refl, omega arith, omega arith, refl, refl),
-  (
-    two_lanes (lane 0 (5 ∷ [])) (lane 0 (6 ∷ [])),
-    ((omega arith, omega arith), refl, omega arith, omega arith, refl, refl),
-    (
-      two_lanes (lane 1 []) (lane 0 (6 ∷ [])),
-      (omega arith, omega arith, refl, ([], refl, refl)),
-      refl,
-    ),
-  ),
-)
+trail_runs = record {
+  mid = two_lanes (lane 0 (5 ∷ [])) (lane 0 []);
+  step = record { lane = (omega arith, omega arith); accepts = refl; left = omega arith; free = omega arith; number = refl; next = refl };
+  rest = record {
+    mid = two_lanes (lane 0 (5 ∷ [])) (lane 0 (6 ∷ []));
+    step = record { lane = (omega arith, omega arith); accepts = refl; left = omega arith; free = omega arith; number = refl; next = refl };
+    rest = record {
+      mid = two_lanes (lane 1 []) (lane 0 (6 ∷ []));
+      step = record { box = omega arith; sender = omega arith; number = refl; rest = []; first = refl; next = refl };
+      rest = refl;
+    };
+  };
+}
 
 -- each seat's lines are the trail's lines of its worker
 pub seats_agree : Agrees three_lines first × Agrees three_lines second

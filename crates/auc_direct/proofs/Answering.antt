@@ -22,7 +22,7 @@ use Rattle.auc_graph.specs.declared.rows.RowArc.{RowArc}
 use Rattle.auc_hall.proofs.Membership.{contains_at}
 use Rattle.auc_hall.proofs.ProblemLaws.{length-rows, row_is}
 use Rattle.auc_letters.specs.declared.state.Held.{Held}
-use Rattle.auc_model.proofs.Chosen.{Found, row_arc_listed}
+use Rattle.auc_model.proofs.Chosen.{row_arc_listed}
 use Rattle.auc_answers.specs.declared.answer.Answer.{Answer}
 use Rattle.auc_answers.specs.Answers.{HasAssignment, IsAnswer, IsBracketAnswer, IsBracketOf, IsCertified, IsInfeasibleAnswer, IsOptimalAnswer}
 use Rattle.auc_answers.specs.Claims.{BoundFits, IsChoiceOf, claim_of}
@@ -181,12 +181,12 @@ length_zero (x ∷ xs) e = absurd (omega (arith, e))
 
 -- the problem's arc that an arc of a row stands for
 arc_for : (i : ℕ) (arcs : List Arc) (a : RowArc) → Contains (row i arcs) a → slice_get arcs a.arc ≡ Some (record { cost = a.cost; person = i; object = a.object })
-unfolding row Found
+unfolding row
 arc_for i arcs a c =
     let f = row_arc_listed i 0 arcs a c in
     let arc : Arc = record { cost = a.cost; person = i; object = a.object } in
-    let place : a.arc ≡ f.0 = (let e = f.2 in omega (arith, e)) in
-    ap (slice_get arcs) place ∙ slice_get-get_or arcs f.0 arc f.1 ∙ ap Some (f.3 arc)
+    let place : a.arc ≡ f.place = (let e = f.numbered in omega (arith, e)) in
+    ap (slice_get arcs) place ∙ slice_get-get_or arcs f.place arc f.known ∙ ap Some (f.there arc)
 
 -- the arc of a row is one of the problem
 pub listed_at : (p : Problem) (i : ℕ) (s : ShortArc) → Contains (short_row i p.arcs) s → Contains p.arcs (arc_by i s)

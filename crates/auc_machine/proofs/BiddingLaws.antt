@@ -27,7 +27,7 @@ same_persons p s n e = ap (λ (x : Persons). set p.persons s x) e ∙ set-get_or
 stops_same : (p : Parts) (s i : ℕ) (why : Why) → Stopped p.table p.eps (persons_at p s) i why → Stops (phase p) (world_of p) s i why
 stops_same p s i Why.Bids h = h
 stops_same p s i Why.Stuck h = h
-stops_same p s i Why.Ceiling h = h
+stops_same p s i Why.Ceiling (left, (arc, amount, bid, above)) = record { left = left; arc = arc; amount = amount; bid = bid; above = above }
 stops_same p s i Why.Posts h = h
 stops_same p s i Why.Trail h = h
 stops_same p s i Why.Mail h = h

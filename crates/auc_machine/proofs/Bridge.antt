@@ -24,6 +24,7 @@ use Rattle.auc_model.specs.Schedule.{Reached}
 use Rattle.auc_model.specs.World.{World, phase_of}
 use Rattle.auc_model.proofs.Chosen.{holders_are_assignment}
 use Rattle.auc_model.proofs.CountedSlack.{held_slack_right}
+use Rattle.auc_machine.specs.Certified.{HasCertified}
 
 module _ (p : Problem) (t : Table) (shards : ℕ) (v : World) (prices : List ℤ) (is : IsProblem p) (table : IsTable t) (of : IsTableOf p t) (reached : Reached (phase_of t shards (pos 1)) v) (true_prices : ArePricesOf v prices) (many : length prices ≡ p.objects) (range : All IsPrice prices) where
   slack : (choice : List Arc) → IsAssignment p choice → All (IsHeldArc p v) choice → All (IsSlackRight (pos 1) (scale_of p) prices p.arcs) choice
@@ -46,7 +47,7 @@ module _ (p : Problem) (t : Table) (shards : ℕ) (v : World) (prices : List ℤ
           let own = held h.person none l in
           let person : (get_or choice h.person none).person ≡ 0 + h.person = person_at p.persons 0 h.person choice none given.persons l in
           let who = own.person in
-          let once : j ≡ (get_or choice h.person none).object = (of_every_schedule (phase_of t shards (pos 1)) v reached).2 j (get_or choice h.person none).object h own.held e own.holds (omega (arith, person, who)) in
+          let once : j ≡ (get_or choice h.person none).object = (of_every_schedule (phase_of t shards (pos 1)) v reached).held_once j (get_or choice h.person none).object h own.held e own.holds (omega (arith, person, who)) in
           absurd (free (h.person, omega (arith, l, length-map choice object_of), get_or-map object_of choice h.person none j l ∙ sym once))
 
   no_price_left : (IsSquare p ⊎ ((j : ℕ) → v.holder j ≡ None → v.price j ≡ pos 0)) → (choice : List Arc) → IsAssignment p choice → All (IsHeldArc p v) choice → IsNoPriceLeft prices choice
@@ -60,7 +61,12 @@ module _ (p : Problem) (t : Table) (shards : ℕ) (v : World) (prices : List ℤ
       record { in_range = in_range; faultless = faultless; allowed = faultless_is_allowed p (Optimal (total_cost choice) (map pick_of choice) prices) is in_range faultless }
 
 pub counted_are_certified : (p : Problem) (t : Table) (shards : ℕ) (v : World) (prices : List ℤ) → IsProblem p → IsTable t → IsTableOf p t → (IsSquare p ⊎ ((j : ℕ) → v.holder j ≡ None → v.price j ≡ pos 0)) → Reached (phase_of t shards (pos 1)) v → v.count ≡ length t.rows → ArePricesOf v prices → length prices ≡ p.objects → All IsPrice prices
-    → (choice : List Arc) × IsAssignment p choice × All (IsHeldArc p v) choice × IsCertified p (Optimal (total_cost choice) (map pick_of choice) prices)
+    → HasCertified p v prices
 counted_are_certified p t shards v prices is table of priced reached counted true_prices many range =
     let found = holders_are_assignment p t shards (pos 1) v of reached counted in
-    (found.0, found.1, found.2, certified p t shards v prices is table of reached true_prices many range priced found.0 found.1 found.2)
+    record {
+      choice = found.choice;
+      assigned = found.assigned;
+      held = found.held;
+      certified = certified p t shards v prices is table of reached true_prices many range priced found.choice found.assigned found.held;
+    }

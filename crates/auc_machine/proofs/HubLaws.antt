@@ -34,7 +34,7 @@ pub hub_heard : (q p : Parts) → p ≡ q → (l : Letter) (s : Letters) (after 
     → HubTakeTurn (phase q) (world_of q) TurnReply.Moved (world_of (record (with_letters p s) { hub = after }))
 hub_heard q p same l s after took rest heard =
     subst (λ (z : Parts). HubTakeTurn (phase z) (world_of z) TurnReply.Moved (world_of (record (with_letters p s) { hub = after }))) same
-    (takes took.0 took.1 l s.mails.hub took.2 refl
+    (takes took.sender took.number l s.mails.hub took.takes refl
     (ap (λ (h : Counting). world_of (record (with_letters p s) { hub = h })) heard
     ∙ (ap (λ (k : Letters). world_of (record (with_letters p k) { hub = hearing (length p.table.rows) l p.hub })) rest ∙ heard_seen (record p { mails = record p.mails { hub = s.mails.hub } }) l)))
 

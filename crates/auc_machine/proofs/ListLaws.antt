@@ -67,7 +67,7 @@ kept_left g p shards holders prices lists reached many gathered are = record {
   many = let m = are.many in omega (arith, m, many);
   each = All-from_get_or (Kept p.table prices) lists [] (λ s lt.
       kept_rises p.table (get_or p.persons s no_persons).copies prices (get_or lists s [])
-      (λ j. (let low = (of_every_schedule g (world_of p) reached).1 s j in let is = gathered.price_is j in rw is low))
+      (λ j. (let low = (of_every_schedule g (world_of p) reached).copies_low s j in let is = gathered.price_is j in rw is low))
       (are.each s lt));
 }
 

@@ -59,13 +59,13 @@ module _ (p : Parts) (are : AreParts p) (x : ℕ) (known : x < 2 * p.shards) whe
       (omega (arith, there.senders_are), subst (λ (n : ℕ). box_of o.to < n) (sym there.boxes_are) reach)
 
   leaves_keeps : (s : Mails) (o : Out) → Leaves p.mails x o s → AreParts (record p { mails = s })
-  leaves_keeps s o (inl sent) = subst (λ (t : Mails). AreParts (record p { mails = t })) (sym sent.2) (keeps_mails p are (name_of o.to) (mail_for s o) (post_of x o) (Reply.Posted sent.0) sent.1)
-  leaves_keeps s o (inr missed) = subst (λ (t : Mails). AreParts (record p { mails = t })) (sym missed.3) are
+  leaves_keeps s o (inl sent) = subst (λ (t : Mails). AreParts (record p { mails = t })) (sym sent.mails) (keeps_mails p are (name_of o.to) (mail_for s o) (post_of x o) (Reply.Posted sent.number) sent.step)
+  leaves_keeps s o (inr missed) = subst (λ (t : Mails). AreParts (record p { mails = t })) (sym missed.same) are
 
   pub left_keeps : (l : Letters) → Posts (letters_of p) x Posted.Left l → AreParts (with_letters p l)
   left_keeps l left =
-      let kept = keeps_outboxes (record p { mails = l.mails }) (leaves_keeps l.mails left.0 left.2) x (drop 1 (outbox_at p x)) known (All-drop (Reaches p.shards) 1 (outbox_at p x) (are.each_outbox x known)) in
-      subst (λ (xs : List (List Out)). AreParts (record p { outboxes = xs; mails = l.mails })) (sym left.3) kept
+      let kept = keeps_outboxes (record p { mails = l.mails }) (leaves_keeps l.mails left.out left.leaves) x (drop 1 (outbox_at p x)) known (All-drop (Reaches p.shards) 1 (outbox_at p x) (are.each_outbox x known)) in
+      subst (λ (xs : List (List Out)). AreParts (record p { outboxes = xs; mails = l.mails })) (sym left.outboxes) kept
 
 -- ---- posts as the model's turns
 
@@ -108,20 +108,22 @@ module _ (p : Parts) (x : ℕ) (h : Shard) (from : sender (phase p) h ≡ x) (kn
 
       leaves_turn : (s : Mails) → Leaves p.mails x o s → PostTurn (phase p) (world_of p) h TurnReply.Moved (world_of (record p { outboxes = set p.outboxes x rest; mails = s }))
       leaves_turn s (inl sent) =
-          posts o rest sent.0 (mail_for s o) may_post (as_seen (Reply.Posted sent.0) (mail_for s o) sent.1) refl
-          (rest_seen s ∙ ap (λ (w : World). with_outbox w h rest) (ap (λ (t : Mails). world_of (record p { mails = t })) sent.2 ∙ seen_mail p o.to (mail_for s o)))
+          posts o rest sent.number (mail_for s o) may_post (as_seen (Reply.Posted sent.number) (mail_for s o) sent.step) refl
+          (rest_seen s ∙ ap (λ (w : World). with_outbox w h rest) (ap (λ (t : Mails). world_of (record p { mails = t })) sent.mails ∙ seen_mail p o.to (mail_for s o)))
       leaves_turn s (inr missed) =
           let same : world_of (record p { outboxes = set p.outboxes x rest; mails = s }) ≡ with_outbox (world_of p) h rest =
-          rest_seen s ∙ ap (λ (t : Mails). with_outbox (world_of (record p { mails = t })) h rest) missed.3 in
-          elim missed.2 [
-            | inl closed ↦ meets_closed o rest may_post (refused PostRefused.Closed (subst (λ (y : PostRefused). Step (mail_for p.mails o) (post_of x o) (Reply.Refused y) (mail_for p.mails o)) closed missed.1)) refl same
-            | inr price ↦ drops_price o rest missed.0 may_post (refused missed.0 missed.1) price.0 price.1 refl same
+          rest_seen s ∙ ap (λ (t : Mails). with_outbox (world_of (record p { mails = t })) h rest) missed.same in
+          elim missed.may [
+            | inl closed ↦ meets_closed o rest may_post (refused PostRefused.Closed (subst (λ (y : PostRefused). Step (mail_for p.mails o) (post_of x o) (Reply.Refused y) (mail_for p.mails o)) closed missed.step)) refl same
+            | inr price ↦ drops_price o rest missed.refused may_post (refused missed.refused missed.step) price.0 price.1 refl same
           ]
 
   pub posts_left : (l : Letters) → AreParts p → Posts (letters_of p) x Posted.Left l → PostTurn (phase p) (world_of p) h TurnReply.Moved (world_of (with_letters p l))
-  posts_left l are left = subst (λ (xs : List (List Out)). PostTurn (phase p) (world_of p) h TurnReply.Moved (world_of (record p { outboxes = xs; mails = l.mails }))) (sym left.3) (leaves_turn left.0 left.1 are l.mails left.2)
+  posts_left l are left = subst (λ (xs : List (List Out)). PostTurn (phase p) (world_of p) h TurnReply.Moved (world_of (record p { outboxes = xs; mails = l.mails }))) (sym left.outboxes) (leaves_turn left.out left.first are l.mails left.leaves)
 
   pub posts_stays : (l : Letters) (v : Parts) (why : Why) → Posts (letters_of p) x (Posted.Stays why) l → v ≡ record (with_letters p l) { hub = ending p.hub (End.Stopped why) } → PostTurn (phase p) (world_of p) h TurnReply.Moved (world_of v)
-  posts_stays l v why (o, first, stays, same) e =
-      keeps_letter o (drop 1 (outbox_at p x)) stays.0 (may_post o first) (refused o first stays.0 stays.1) stays.2 stays.3 refl
-      (ap world_of (e ∙ ap (λ (k : Letters). record (with_letters p k) { hub = ending p.hub (End.Stopped why) }) same) ∙ ap (λ (y : Why). ended (world_of p) y) stays.4)
+  posts_stays l v why kept e =
+      let o = kept.out in
+      let stays = kept.stays in
+      keeps_letter o (drop 1 (outbox_at p x)) stays.refused (may_post o kept.first) (refused o kept.first stays.refused stays.step) stays.not_closed stays.no_price refl
+      (ap world_of (e ∙ ap (λ (k : Letters). record (with_letters p k) { hub = ending p.hub (End.Stopped why) }) kept.same) ∙ ap (λ (y : Why). ended (world_of p) y) stays.reason_is)

@@ -19,16 +19,22 @@ use Rattle.auc_machine.specs.Rounds.{Plays, Rounds, answers_of, bids_of, has_mov
 -- ---- turns, one after another
 
 pub one_play : (g : Phase) (w v : World) (t : Turn) (r : TurnReply) → Turned g w t r v → Plays g w (t ∷ []) (has_moved r) v
-one_play g w v t r turned = (v, r, false, turned, (refl, refl), sym (or-false (has_moved r)))
+one_play g w v t r turned = record { mid = v; reply = r; later = false; turned = turned; rest = (refl, refl); moved_is = sym (or-false (has_moved r)) }
 
 pub plays_join : (g : Phase) (w : World) (ts us : List Turn) (u v : World) (a b : Bool) → Plays g w ts a u → Plays g u us b v → Plays g w (ts ++ us) (a || b) v
 plays_join g w [] us u v a b (same, none) later = subst (λ (c : Bool). Plays g w us (c || b) v) (sym none) (subst (λ (x : World). Plays g x us b v) same later)
-plays_join g w (t ∷ ts) us u v a b (m, r, rest, turned, played, is) later =
-    (m, r, (rest || b), turned, plays_join g m ts us u v rest b played later, ap (λ (c : Bool). c || b) is ∙ or_assoc (has_moved r) rest b)
+plays_join g w (t ∷ ts) us u v a b first later = record {
+  mid = first.mid;
+  reply = first.reply;
+  later = first.later || b;
+  turned = first.turned;
+  rest = plays_join g first.mid ts us u v first.later b first.rest later;
+  moved_is = ap (λ (c : Bool). c || b) first.moved_is ∙ or_assoc (has_moved first.reply) first.later b;
+}
 
 pub plays_schedule : (g : Phase) (w : World) (ts : List Turn) (moved : Bool) (v : World) → Plays g w ts moved v → Schedule g w ts v
 plays_schedule g w [] moved v (same, none) = same
-plays_schedule g w (t ∷ ts) moved v (m, r, rest, turned, played, is) = (m, r, turned, plays_schedule g m ts rest v played)
+plays_schedule g w (t ∷ ts) moved v h = record { mid = h.mid; reply = h.reply; turned = h.turned; rest = plays_schedule g h.mid ts h.later v h.rest }
 
 -- ---- turns more at the end of those of a stage
 
@@ -40,6 +46,11 @@ two_plays g w m v t u r s first second = plays_join g w (t ∷ []) (u ∷ []) m 
 
 pub three_plays : (g : Phase) (w m n v : World) (t u x : Turn) (r s o : TurnReply) → Turned g w t r m → Turned g m u s n → Turned g n x o v → Plays g w (t ∷ u ∷ x ∷ []) (has_moved r || (has_moved s || has_moved o)) v
 three_plays g w m n v t u x r s o first second third = plays_join g w (t ∷ []) (u ∷ x ∷ []) m v (has_moved r) (has_moved s || has_moved o) (one_play g w m t r first) (two_plays g m n v u x s o second third)
+
+pub five_plays : (g : Phase) (w a b c d v : World) (t u x y z : Turn) (r s o p q : TurnReply) → Turned g w t r a → Turned g a u s b → Turned g b x o c → Turned g c y p d → Turned g d z q v
+    → Plays g w (t ∷ u ∷ x ∷ y ∷ z ∷ []) ((has_moved r || has_moved s) || (has_moved o || (has_moved p || has_moved q))) v
+five_plays g w a b c d v t u x y z r s o p q first second third fourth fifth =
+    plays_join g w (t ∷ u ∷ []) (x ∷ y ∷ z ∷ []) b v (has_moved r || has_moved s) (has_moved o || (has_moved p || has_moved q)) (two_plays g w a b t u r s first second) (three_plays g b c d v x y z o p q third fourth fifth)
 
 pub hear_more : (g : Phase) (w u v : World) (s : ℕ) (moved : Bool) (r : TurnReply) → Plays g w (hearings_of s) moved u → Turned g u (Turn.PersonTake s) r v → Plays g w (hearings_of (suc s)) (moved || has_moved r) v
 hear_more g w u v s moved r before take = plays_join g w (hearings_of s) (Turn.PersonTake s ∷ []) u v moved (has_moved r) before (one_play g u v (Turn.PersonTake s) r take)
@@ -90,12 +101,12 @@ is_nothing TurnReply.Moved e = absurd cc
 
 plays_nothing : (g : Phase) (w : World) (ts : List Turn) (moved : Bool) (v : World) → Plays g w ts moved v → moved ≡ false → (v ≡ w) × AllNothing g w ts
 plays_nothing g w [] moved v (same, none) e = (same, tt)
-plays_nothing g w (t ∷ ts) moved v (m, r, rest, turned, played, is) e =
-    let both = or_false (has_moved r) rest (sym is ∙ e) in
-    let nothing = is_nothing r both.0 in
-    let unmoved : m ≡ w = nothing_changes g w t r m turned nothing in
-    let later = plays_nothing g m ts rest v played both.1 in
-    (later.0 ∙ unmoved, (subst (λ (x : World). Turned g w t TurnReply.Nothing x) unmoved (subst (λ (a : TurnReply). Turned g w t a m) nothing turned), subst (λ (x : World). AllNothing g x ts) unmoved later.1))
+plays_nothing g w (t ∷ ts) moved v h e =
+    let both = or_false (has_moved h.reply) h.later (sym h.moved_is ∙ e) in
+    let nothing = is_nothing h.reply both.0 in
+    let unmoved : h.mid ≡ w = nothing_changes g w t h.reply h.mid h.turned nothing in
+    let later = plays_nothing g h.mid ts h.later v h.rest both.1 in
+    (later.0 ∙ unmoved, (subst (λ (x : World). Turned g w t TurnReply.Nothing x) unmoved (subst (λ (a : TurnReply). Turned g w t a h.mid) nothing h.turned), subst (λ (x : World). AllNothing g x ts) unmoved later.1))
 
 nothing_split : (g : Phase) (w : World) (ts us : List Turn) → AllNothing g w (ts ++ us) → AllNothing g w ts × AllNothing g w us
 nothing_split g w [] us h = (tt, h)
@@ -170,9 +181,9 @@ round_of_round n =
 
 plays_never_more : (g : Phase) (w : World) (ts : List Turn) (moved : Bool) (v : World) → AreOfRound ts → Plays g w ts moved v → work g v ≤ work g w
 plays_never_more g w [] moved v all (same, none) = rw same (omega arith)
-plays_never_more g w (t ∷ ts) moved v (here, all) (m, r, rest, turned, played, is) =
-    let first = turns_never_more g w m t r here turned in
-    let later = plays_never_more g m ts rest v all played in
+plays_never_more g w (t ∷ ts) moved v (here, all) h =
+    let first = turns_never_more g w h.mid t h.reply here h.turned in
+    let later = plays_never_more g h.mid ts h.later v all h.rest in
     omega (arith, first, later)
 
 some_end : (e : Option End) → e ≢ None → (d : End) × (e ≡ Some d)
@@ -198,12 +209,12 @@ moved_or TurnReply.Nothing rest e = inr e
 
 plays_gain : (g : Phase) (w : World) (ts : List Turn) (moved : Bool) (v : World) → AreOfRound ts → Plays g w ts moved v → moved ≡ true → Gains g w v
 plays_gain g w [] moved v all (same, none) e = absurd (cc (none, e))
-plays_gain g w (t ∷ ts) moved v (here, all) (m, r, rest, turned, played, is) e =
-    elim (moved_or r rest (sym is ∙ e)) [
-      | inl now ↦ gains_at g w m v t ts r here all turned rest played now
-      | inr then ↦ elim (plays_gain g m ts rest v all played then) [
+plays_gain g w (t ∷ ts) moved v (here, all) h e =
+    elim (moved_or h.reply h.later (sym h.moved_is ∙ e)) [
+      | inl now ↦ gains_at g w h.mid v t ts h.reply here all h.turned h.later h.rest now
+      | inr then ↦ elim (plays_gain g h.mid ts h.later v all h.rest then) [
         | inl set ↦ inl set
-        | inr fewer ↦ (let first = turns_never_more g w m t r here turned in inr (omega (arith, fewer, first)))
+        | inr fewer ↦ (let first = turns_never_more g w h.mid t h.reply here h.turned in inr (omega (arith, fewer, first)))
       ]
     ]
 
@@ -238,13 +249,13 @@ round_less g w v moved played e none =
 -- ---- whole rounds
 
 pub one_round : (g : Phase) (w m v : World) (n : ℕ) (moved : Bool) → Rounds g w n m → m.end ≡ None → Plays g m (round_of g.shards) moved v → Rounds g w (suc n) v
-one_round g w m v n moved before none played = (m, moved, before, none, played)
+one_round g w m v n moved before none played = record { mid = m; moved = moved; before = before; unended = none; played = played }
 
 pub rounds_schedule : (g : Phase) (w : World) (n : ℕ) (v : World) → Rounds g w n v → (ts : List Turn) × Schedule g w ts v
 rounds_schedule g w zero v same = ([], same)
-rounds_schedule g w (suc n) v (m, moved, before, none, played) =
-    let first = rounds_schedule g w n m before in
-    (first.0 ++ round_of g.shards, schedules_join g w first.0 (round_of g.shards) m v first.1 (plays_schedule g m (round_of g.shards) moved v played))
+rounds_schedule g w (suc n) v h =
+    let first = rounds_schedule g w n h.mid h.before in
+    (first.0 ++ round_of g.shards, schedules_join g w first.0 (round_of g.shards) h.mid v first.1 (plays_schedule g h.mid (round_of g.shards) h.moved v h.played))
 
 -- ---- the same of the parts of a world
 

@@ -32,8 +32,8 @@ module _ (p : Parts) (q : ℕ) (are : AreParts p) (known : q < p.shards) where
       none (bid_of i a j amount)
       (record {
         letter_is = refl;
-        owns = record { known = subst (λ (n : ℕ). j < n) (sym shard_is.objects) f.0; own = subst (λ (n : ℕ). j % n ≡ (objects_at p q).shard) (sym shard_is.of) (f.1 ∙ sym shard_is.number) };
-        amount = f.2;
+        owns = record { known = subst (λ (n : ℕ). j < n) (sym shard_is.objects) f.object; own = subst (λ (n : ℕ). j % n ≡ (objects_at p q).shard) (sym shard_is.of) (f.shard ∙ sym shard_is.number) };
+        amount = f.price;
       })
   unfit (Letter.Award i j r) none f = f
   unfit (Letter.Refused i j r) none f = f
@@ -71,7 +71,7 @@ module _ (p : Parts) (q : ℕ) (are : AreParts p) (may : MayAnswer p q) where
 
     pub stray_dealt : (v : Parts) → (FitsBid (phase t) q l → ⊥) → v ≡ record t { hub = ending t.hub (End.Stopped Why.Stray) } → ObjectTakeTurn (phase p) (world_of p) q TurnReply.Moved (world_of v)
     stray_dealt v unfit e2 =
-        strays takes.0 takes.1 l m may.known may.empty takes.2 (subst (λ (z : Parts). FitsBid (phase z) q l → ⊥) e1 unfit) refl
+        strays takes.sender takes.number l m may.known may.empty takes.takes (subst (λ (z : Parts). FitsBid (phase z) q l → ⊥) e1 unfit) refl
         (ap world_of (e2 ∙ ap (λ (z : Parts). record z { hub = ending z.hub (End.Stopped Why.Stray) }) e1))
 
     module _ (u : Parts) (letters : List Out) (bid : Bid) (fits : IsBidIn (objects_at t q) l bid) (awarded : objects_at u q ≡ after_bid (objects_at t q) t.eps bid) (answered : letters ≡ answers t.shards t.eps (sale_of (objects_at t q) bid.object) bid)
@@ -105,7 +105,7 @@ module _ (p : Parts) (q : ℕ) (are : AreParts p) (may : MayAnswer p q) where
       pub bid_dealt : (v : World) → v ≡ with_outbox (world_of u) (ObjectShard q) letters → ObjectTakeTurn (phase p) (world_of p) q TurnReply.Moved v
       bid_dealt v put =
           let takes_bid : TakesOne p.mails.objects q (bid_letter bid) m = subst (λ (x : Letter). TakesOne p.mails.objects q x m) offer.letter_is takes in
-          answers_bid takes_bid.0 takes_bid.1 bid m may.known may.empty takes_bid.2 (subst (λ (n : ℕ). bid.object < n) is.objects offer.owns.known, own, offer.amount) refl
+          answers_bid takes_bid.sender takes_bid.number bid m may.known may.empty takes_bid.takes (record { object = subst (λ (n : ℕ). bid.object < n) is.objects offer.owns.known; shard = own; price = offer.amount }) refl
           (put
           ∙ (ap (λ (os : List Out). with_outbox (world_of u) (ObjectShard q) os) letters_are
           ∙ (ap (λ (w : World). with_outbox w (ObjectShard q) (answers p.shards p.eps sale bid)) seen_after ∙ ap (λ (s : Sale). with_outbox (now_known (award p.eps s bid)) (ObjectShard q) (answers p.shards p.eps s bid)) sale_is)))

@@ -5,3 +5,4 @@ pub mod Rounds
 pub mod Mails
 pub mod Posting
 pub mod Lists
+pub mod Certified

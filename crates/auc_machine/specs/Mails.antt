@@ -25,8 +25,10 @@ with_named m MailName.Persons x = record m { persons = x }
 with_named m MailName.Hub x = record m { hub = x }
 
 -- a take from box b gives the letter l of some sender, and leaves n
-abbrev pub TakesOne : Mail Letter → ℕ → Letter → Mail Letter → Type 0
-TakesOne m b l n = (x : ℕ) × (k : ℕ) × Takes m b x k l n
+pub record TakesOne (m : Mail Letter) (b : ℕ) (l : Letter) (n : Mail Letter) : Type 0 where
+  pub sender : ℕ
+  pub number : ℕ
+  pub takes : Takes m b sender number l n
 
 -- the state of a post office: the outbox of each sender, the next letter first, and the three mails
 pub record Letters : Type 0 where

@@ -2,12 +2,7 @@
 //! theorems.
 
 ghost use Rattle.std.specs.Prelude.{true, ℕ, ℤ, pos, ◌<◌, ◌≤◌, ◌≤ℤ◌, ◌≡◌, ◌≢◌, ◌⊎◌, List, [], ◌∷◌, Some, None, All};
-ghost use Rattle.std.specs.Prelude.{Contains, length, map};
-ghost use Rattle.auc_claim.specs.declared.cert.CertParts.TheVariants.{Optimal};
-ghost use Rattle.auc_claim.specs.Claim.{pick_of};
-ghost use Rattle.auc_graph.specs.declared.arc.Arc.{Arc};
-ghost use Rattle.auc_graph.specs.declared.rows.RowArc.{RowArc};
-ghost use Rattle.auc_graph.specs.Assignment.{IsAssignment, total_cost};
+ghost use Rattle.std.specs.Prelude.{length};
 ghost use Rattle.auc_graph.specs.Problem.{Problem, IsProblem, IsSquare};
 ghost use Rattle.auc_graph.specs.Table.{Table, IsTable, IsTableOf};
 ghost use Rattle.auc_graph.specs.Price.{IsPrice};
@@ -17,18 +12,18 @@ ghost use Rattle.auc_letters.specs.declared.out.Out.{Out};
 ghost use Rattle.auc_letters.specs.declared.state.Held.{Held};
 ghost use Rattle.auc_mail.specs.Mail.{Mail};
 ghost use Rattle.auc_mail.specs.declared.call.PostRefused.{PostRefused};
-ghost use Rattle.auc_model.specs.Chosen.{ArePricesOf, IsHeldArc};
+ghost use Rattle.auc_model.specs.Chosen.{ArePricesOf, HoldersAreAssigned, HoldsAnObject};
 ghost use Rattle.auc_model.specs.Hearing.{FitsLetter, Rises};
 ghost use Rattle.auc_model.specs.Hub.{IsForHub};
 ghost use Rattle.auc_model.specs.Mails.{Shard, Takes};
 ghost use Rattle.auc_model.specs.Posting.{MayPost, Refuses, is_price};
 ghost use Rattle.auc_model.specs.Schedule.{Reached};
 ghost use Rattle.auc_model.specs.Selling.{FitsBid};
-ghost use Rattle.auc_model.specs.Slack.{SlackRight};
+ghost use Rattle.auc_model.specs.SlackBids.{HasSlackArc};
 ghost use Rattle.auc_model.specs.Start.{UsualNodes};
 ghost use Rattle.auc_model.specs.World.{World as Model, phase_of};
 ghost use Rattle.auc_model.specs.declared.turn.End.{End};
-ghost use Rattle.auc_answers.specs.Answers.{IsCertified};
+ghost use Rattle.auc_machine.specs.Certified.{HasCertified};
 ghost use Rattle.auc_machine.specs.Parts.{phase, world_of};
 
 use crate::world::World;
@@ -69,9 +64,8 @@ impl<'a> World<'a> {
         ensures copies_low { (s j : ℕ) → (world_of self.now).copy s j ≤ℤ (world_of self.now).price j }
         ensures held_once { (j k : ℕ) (a b : Held) → (world_of self.now).holder j ≡ Some a
             → (world_of self.now).holder k ≡ Some b → a.person ≡ b.person → j ≡ k }
-        ensures slack { (j : ℕ) (h : Held) → (world_of self.now).holder j ≡ Some h → (a : RowArc)
-            × Contains ((phase self.now).row h.person) a × (a.object ≡ j) × (a.arc ≡ h.arc)
-            × SlackRight (phase self.now) (world_of self.now).price h.person a }
+        ensures slack { (j : ℕ) (h : Held) → (world_of self.now).holder j ≡ Some h
+            → HasSlackArc (phase self.now) (world_of self.now).price h j }
         ensures counted { (world_of self.now).count ≤ (phase self.now).persons }
     {}
 
@@ -81,11 +75,9 @@ impl<'a> World<'a> {
         requires { Reached (phase self.now) (world_of self.now) }
         ensures ended { (world_of self.now).end ≡ Some End.All → (world_of self.now).count ≡ (phase self.now).persons }
         ensures everyone { (world_of self.now).count ≡ (phase self.now).persons → (i : ℕ)
-            → i < (phase self.now).persons → (j : ℕ) × (h : Held) × ((world_of self.now).holder j ≡ Some h)
-            × (h.person ≡ i) }
+            → i < (phase self.now).persons → HoldsAnObject (world_of self.now) i }
         ensures assigned { (p : Problem) → IsTableOf p self.now.table
-            → (world_of self.now).count ≡ (phase self.now).persons → (choice : List Arc) × IsAssignment p choice
-            × All (IsHeldArc p (world_of self.now)) choice }
+            → (world_of self.now).count ≡ (phase self.now).persons → HoldersAreAssigned p (world_of self.now) }
     {}
 }
 
@@ -97,6 +89,5 @@ pub fn counted_holders_pass_the_checker()
     ensures { (p : Problem) (t : Table) (shards : ℕ) (v : Model) (prices : List ℤ) → IsProblem p → IsTable t
         → IsTableOf p t → (IsSquare p ⊎ ((j : ℕ) → v.holder j ≡ None → v.price j ≡ pos 0))
         → Reached (phase_of t shards (pos 1)) v → v.count ≡ length t.rows → ArePricesOf v prices
-        → length prices ≡ p.objects → All IsPrice prices → (choice : List Arc) × IsAssignment p choice
-        × All (IsHeldArc p v) choice × IsCertified p (Optimal (total_cost choice) (map pick_of choice) prices) }
+        → length prices ≡ p.objects → All IsPrice prices → HasCertified p v prices }
 {}

@@ -27,10 +27,10 @@ module _ {T : Type 0} {senders most : ℕ} {boxes : List MailBox} {posted : List
   lanes_within b hb = omega (arith, kept.lists, kept.lanes, mul_le b (length boxes) senders hb)
 
   pub lanes_small : (b : ℕ) → b < length boxes → b * senders + senders < 2 ^ 32
-  lanes_small b hb = omega (arith, lanes_within b hb, kept.lists, kept.lanes, kept.lanes_fit.2)
+  lanes_small b hb = omega (arith, lanes_within b hb, kept.lists, kept.lanes, kept.lanes_fit.few_lanes)
 
   pub lane_small : (b s : ℕ) → s < senders → b < length boxes → b * senders + s < 2 ^ 32
-  lane_small b s hs hb = omega (arith, lane_within b s hs hb, kept.lanes, kept.lanes_fit.2)
+  lane_small b s hs hb = omega (arith, lane_within b s hs hb, kept.lanes, kept.lanes_fit.few_lanes)
 
   pub box_within : (b : ℕ) → HasBox (mail_of senders most boxes posted pool) b → b < length boxes
   box_within b hb = omega (arith, hb, length-map boxes (λ (x : MailBox). x.accepting))
@@ -120,15 +120,20 @@ lane_le_box {T} senders lists b s hs =
     omega (arith, get_or-le-sum_by (λ (n : ℕ). n) (table g senders) s 0 lt, get_or-table g senders s 0 hs, sum-map g (range_with_len 0 senders))
 
 -- each lane of a box is that of one of the senders
-pub lane_split : (senders b k : ℕ) → IsLaneOf senders b k → (s : ℕ) × (s < senders) × (k ≡ b * senders + s)
-lane_split senders b k of = (k - b * senders, omega (arith, of.0, of.1), omega (arith, of.0))
+pub record IsLaneOfSender (senders b k : ℕ) : Type 0 where
+  pub sender : ℕ
+  pub known : sender < senders
+  pub place : k ≡ b * senders + sender
+
+pub lane_split : (senders b k : ℕ) → IsLaneOf senders b k → IsLaneOfSender senders b k
+lane_split senders b k of = record { sender = k - b * senders; known = omega (arith, of.0, of.1); place = omega (arith, of.0) }
 
 -- where no letter waits in a box, each of its lists is empty
 pub empty_box : {T : Type 0} (senders : ℕ) (lists : List (List T)) (b : ℕ) → box_waiting senders lists b ≡ 0 → (k : ℕ) → IsLaneOf senders b k → get_or lists k [] ≡ []
 empty_box {T} senders lists b none k of =
     let split = lane_split senders b k of in
-    let s = split.0 in
-    ap (λ (i : ℕ). get_or {A = List T} lists i []) split.2 ∙ nil_from_length (get_or lists (b * senders + s) []) (omega (arith, lane_le_box senders lists b s split.1, none))
+    let s = split.sender in
+    ap (λ (i : ℕ). get_or {A = List T} lists i []) split.place ∙ nil_from_length (get_or lists (b * senders + s) []) (omega (arith, lane_le_box senders lists b s split.known, none))
 
 -- the lanes of a new pool
 pub new_lanes : {T : Type 0} (lanes : ℕ) → lanes_of {T = T} (replicate lanes 0) (replicate lanes []) ≡ replicate lanes blank_lane

@@ -24,7 +24,7 @@ module _ {T : Type 0} {senders most : ℕ} {boxes : List MailBox} {posted : List
 
   pub post_closed : state.accepting ≡ false
       → Step (mail_of senders most boxes posted pool) (Post s b item r) (Refused Closed) (mail_of senders most boxes posted pool)
-  post_closed closed = (open_read kept b state hb read ∙ closed, refl, (hs, has_box kept b hb))
+  post_closed closed = record { closed = open_read kept b state hb read ∙ closed; same = refl; lane = (hs, has_box kept b hb) }
 
   posted_is_read : posted_of (mail_of senders most boxes posted pool) b s ≡ n
   posted_is_read = posted_is kept b s hs hb ∙ sym read_n
@@ -37,10 +37,16 @@ module _ {T : Type 0} {senders most : ℕ} {boxes : List MailBox} {posted : List
     is_accepting = open_read kept b state hb read ∙ accepts
 
     pub post_spent : n ≡ most → Step (mail_of senders most boxes posted pool) (Post s b item r) (Refused Spent) (mail_of senders most boxes posted pool)
-    post_spent spent = (is_accepting, posted_is_read ∙ spent, refl, (hs, has_box kept b hb))
+    post_spent spent = record { accepts = is_accepting; spent = posted_is_read ∙ spent; same = refl; lane = (hs, has_box kept b hb) }
 
     pub post_full : n < most → nodes.free_of pool ≤ r → Step (mail_of senders most boxes posted pool) (Post s b item r) (Refused Full) (mail_of senders most boxes posted pool)
-    post_full below full = (is_accepting, omega (arith, posted_is_read, below), omega (arith, full, free_is kept), refl, (hs, has_box kept b hb))
+    post_full below full = record {
+      accepts = is_accepting;
+      left = omega (arith, posted_is_read, below);
+      full = omega (arith, full, free_is kept);
+      same = refl;
+      lane = (hs, has_box kept b hb);
+    }
 
     -- the lane's count was read again, as m
     module _ (below : n < most) (m : ℕ) (read_again : m ≡ get_or posted (b * senders + s) m) where
@@ -71,11 +77,12 @@ module _ {T : Type 0} {senders most : ℕ} {boxes : List MailBox} {posted : List
           let waits = get_or pool.lists k [] ++ item ∷ [] in
           let same : (m + 1) - length waits ≡ get_or posted k 0 - length (get_or pool.lists k []) = omega (arith, longer, read_m) in
           let makes = change_makes kept b s hs hb (m + 1) waits x refl
-          ∙ ap (λ (a : ℕ). with_lane old b s (record { taken = a; waiting = waits })) same in (
-            (hs, has_box kept b hb),
-            is_accepting,
-            omega (arith, posted_is_read, below),
-            omega (arith, free, free_is kept),
-            ap (λ (a : ℕ). a + 1) (sym posted_is_read),
-            rw (lane_is kept b s hs hb) makes,
-          )
+          ∙ ap (λ (a : ℕ). with_lane old b s (record { taken = a; waiting = waits })) same in
+          record {
+            lane = (hs, has_box kept b hb);
+            accepts = is_accepting;
+            left = omega (arith, posted_is_read, below);
+            free = omega (arith, free, free_is kept);
+            number = ap (λ (a : ℕ). a + 1) (sym posted_is_read);
+            next = rw (lane_is kept b s hs hb) makes;
+          }

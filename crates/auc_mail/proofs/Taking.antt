@@ -17,10 +17,10 @@ module _ {T : Type 0} {senders most : ℕ} {boxes : List MailBox} {posted : List
   -- no letter waits in the box, of which state was read
   module _ (state : MailBox) (read : state ≡ get_or boxes b state) (none : NothingWaits (mail_of senders most boxes posted pool) b) where
     pub take_empty : state.accepting ≡ true → Step (mail_of senders most boxes posted pool) (Take b) (Took Empty) (mail_of senders most boxes posted pool)
-    take_empty accepts = (open_read kept b state hb read ∙ accepts, none, refl, has_box kept b hb)
+    take_empty accepts = record { accepts = open_read kept b state hb read ∙ accepts; nothing = none; same = refl; box = has_box kept b hb }
 
     pub take_over : state.accepting ≡ false → Step (mail_of senders most boxes posted pool) (Take b) (Took Over) (mail_of senders most boxes posted pool)
-    take_over closed = (open_read kept b state hb read ∙ closed, none, refl, has_box kept b hb)
+    take_over closed = record { closed = open_read kept b state hb read ∙ closed; nothing = none; same = refl; box = has_box kept b hb }
 
   -- the lane k, which is that of s, has a letter
   module _ (k s : ℕ) (of : IsLaneOf senders b k) (is : b * senders + s ≡ k) where
@@ -78,9 +78,12 @@ module _ {T : Type 0} {senders most : ℕ} {boxes : List MailBox} {posted : List
             ∙ ap (λ (a : ℕ). with_lane old b s (record { taken = a; waiting = rest })) same in
             let makes : mail_of senders most (set boxes b x) posted (with_list pool k rest) ≡ with_lane old b s (record { taken = number; waiting = rest }) =
             sym (ap (λ (ps : List ℕ). mail_of senders most (set boxes b x) ps (with_list pool k rest)) (set-get_or posted j 0))
-            ∙ (sym (ap (λ (i : ℕ). mail_of senders most (set boxes b x) (set posted j (get_or posted j 0)) (with_list pool i rest)) is) ∙ makes_at) in (
-              has_box kept b hb,
-              in_range,
-              omega (arith, read_n, ap (λ (l : Lane T). l.taken) lane_here),
-              (rest, ap (λ (l : Lane T). l.waiting) lane_here ∙ listed, makes),
-            )
+            ∙ (sym (ap (λ (i : ℕ). mail_of senders most (set boxes b x) (set posted j (get_or posted j 0)) (with_list pool i rest)) is) ∙ makes_at) in
+            record {
+              box = has_box kept b hb;
+              sender = in_range;
+              number = omega (arith, read_n, ap (λ (l : Lane T). l.taken) lane_here);
+              rest = rest;
+              first = ap (λ (l : Lane T). l.waiting) lane_here ∙ listed;
+              next = makes;
+            }

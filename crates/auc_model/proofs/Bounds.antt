@@ -36,15 +36,24 @@ module _ (g : Phase) (w : World) (c : Channels) (counts : Counts g w c) where
 
   -- if the hub has counted every person, each one waits for an award or holds an object, and no other letter of theirs
   -- is under way
-  pub all_told : w.count ≡ g.persons → (held_objects g w ≡ g.persons) × (everywhere g bid_one c ≡ 0) × (everywhere g refused_one c ≡ 0) × (everywhere g outbid_one c ≡ 0) × (waiting_persons g w + holding_persons g w ≡ g.persons)
+  pub record EveryoneCounted : Type 0 where
+    pub held : held_objects g w ≡ g.persons
+    pub no_bids : everywhere g bid_one c ≡ 0
+    pub no_refusals : everywhere g refused_one c ≡ 0
+    pub no_outbids : everywhere g outbid_one c ≡ 0
+    pub busy : waiting_persons g w + holding_persons g w ≡ g.persons
+
+  pub all_told : w.count ≡ g.persons → EveryoneCounted
   all_told e =
-      let b = busy in let f = firsts_le in (
-        omega (arith, b, f, e, counts.who_waits, counts.who_holds, counts.who_told),
-        omega (arith, b, f, e, counts.who_waits, counts.who_holds, counts.who_told),
-        omega (arith, b, f, e, counts.who_waits, counts.who_holds, counts.who_told),
-        omega (arith, b, f, e, counts.who_waits, counts.who_holds, counts.who_told),
-        omega (arith, b, f, e, counts.who_waits, counts.who_holds, counts.who_told),
-      )
+      let b = busy in
+      let f = firsts_le in
+      record {
+        held = omega (arith, b, f, e, counts.who_waits, counts.who_holds, counts.who_told);
+        no_bids = omega (arith, b, f, e, counts.who_waits, counts.who_holds, counts.who_told);
+        no_refusals = omega (arith, b, f, e, counts.who_waits, counts.who_holds, counts.who_told);
+        no_outbids = omega (arith, b, f, e, counts.who_waits, counts.who_holds, counts.who_told);
+        busy = omega (arith, b, f, e, counts.who_waits, counts.who_holds, counts.who_told);
+      }
 
   -- if nothing is under way and no person is free, the hub has counted every person: no stall
   pub no_stall : waiting_persons g w + holding_persons g w ≡ g.persons → everywhere g bid_one c ≡ 0 → everywhere g award_one c ≡ 0 → everywhere g refused_one c ≡ 0 → everywhere g outbid_one c ≡ 0 → everywhere g first_one c ≡ 0 → w.count ≡ g.persons

@@ -114,19 +114,19 @@ set_channel_off c t x ls u y e = rw e
 -- The first letter that waits is taken
 module _ (g : Phase) (w : World) (lost : Lost) (t : To) (x n : ℕ) (l : Letter) (m : Mail Letter) (whole : IsWhole (mail_of w t)) (takes : Takes (mail_of w t) (box_of t) x n l m) where
   abbrev pub rest_waits : List Letter
-  rest_waits = takes.3.0
+  rest_waits = takes.rest
 
   abbrev pub left_behind : List Letter
   left_behind = rest_waits ++ (lost t x ++ letters_to t (out_of g w x))
 
   first_waits : waits w t x ≡ l ∷ rest_waits
-  first_waits = waiting_there (mail_of w t) (box_of t) x takes.1 ∙ takes.3.1
+  first_waits = waiting_there (mail_of w t) (box_of t) x takes.sender ∙ takes.first
 
   pub channel_taken : channels g w lost t x ≡ l ∷ left_behind
   channel_taken = rw first_waits
 
   taken_at : (u : To) (y : ℕ) → waits (with_mail w t m) u y ≡ set_channel (waits w) t x rest_waits u y
-  taken_at u y = ap (λ (z : Mail Letter). waits (with_mail w t z) u y) takes.3.2 ∙ waits-set w t x (record { taken = n; waiting = rest_waits }) whole (takes.1, takes.0) u y
+  taken_at u y = ap (λ (z : Mail Letter). waits (with_mail w t z) u y) takes.next ∙ waits-set w t x (record { taken = n; waiting = rest_waits }) whole (takes.sender, takes.box) u y
 
   taken_here : (u : To) (y : ℕ) → (same_to u t && (y == x)) ≡ true → channels g (with_mail w t m) lost u y ≡ set_channel (channels g w lost) t x left_behind u y
   taken_here u y e =
@@ -230,10 +230,10 @@ module _ (g : Phase) (w : World) (h : Shard) (o : Out) (rest : List Out) (in_ran
   between = with_mail w o.to m
 
   behind : (lane_of (mail_of w o.to) (box_of o.to) (sender g h)).waiting ≡ waits w o.to (sender g h)
-  behind = sym (waiting_there (mail_of w o.to) (box_of o.to) (sender g h) posts.0.0)
+  behind = sym (waiting_there (mail_of w o.to) (box_of o.to) (sender g h) posts.lane.0)
 
   posted_lane : (u : To) (y : ℕ) → waits between u y ≡ set_channel (waits w) o.to (sender g h) ((lane_of (mail_of w o.to) (box_of o.to) (sender g h)).waiting ++ o.letter ∷ []) u y
-  posted_lane u y = ap (λ (z : Mail Letter). waits (with_mail w o.to z) u y) posts.5 ∙ (waits-set w o.to (sender g h) (lane_behind (lane_of (mail_of w o.to) (box_of o.to) (sender g h)) o.letter) whole posts.0 u y)
+  posted_lane u y = ap (λ (z : Mail Letter). waits (with_mail w o.to z) u y) posts.next ∙ (waits-set w o.to (sender g h) (lane_behind (lane_of (mail_of w o.to) (box_of o.to) (sender g h)) o.letter) whole posts.lane u y)
 
   posted_at : (u : To) (y : ℕ) → waits between u y ≡ set_channel (waits w) o.to (sender g h) (waits w o.to (sender g h) ++ o.letter ∷ []) u y
   posted_at u y = posted_lane u y ∙ ap (λ (ls : List Letter). set_channel (waits w) o.to (sender g h) (ls ++ o.letter ∷ []) u y) behind

@@ -117,6 +117,6 @@ module _ (g : Phase) (w : World) (s j : ℕ) where
 pub copy_schedule : (g : Phase) (w : World) (ts : List Turn) (v : World) (s j : ℕ) → Schedule g w ts v → w.copy s j ≤ℤ v.copy s j
 copy_schedule g w [] v s j e = rw e (omega (arith, ints))
 copy_schedule g w (t ∷ ts) v s j h =
-    let a = copy_turn g w s j t h.1 h.0 h.2 in
-    let b = copy_schedule g h.0 ts v s j h.3 in
+    let a = copy_turn g w s j t h.reply h.mid h.turned in
+    let b = copy_schedule g h.mid ts v s j h.rest in
     omega (arith, ints, a, b)

@@ -164,9 +164,9 @@ module _ (g : Phase) (w v : World) (c d : Channels) (counts : Counts g w c) wher
           record { who_waits = omega (arith, counts.who_waits, e, x, wx, ox, sx); who_holds = omega (arith, counts.who_holds, e, y, wy, oy, sy, sh); who_told = omega (arith, counts.who_told, e, n, sh) }
 
       by_letter : (l : Letter) → told_answer l ≡ Some (a, i, j, p) → Plus g l d c → Counts g v d
-      by_letter (Letter.Award k m q) is e = by_award k m q (sym ((same_answer Award a k m i j q p is).0)) e
-      by_letter (Letter.Refused k m q) is e = by_refused k m q (sym ((same_answer Refused a k m i j q p is).0)) e
-      by_letter (Letter.Outbid k m q) is e = by_outbid k m q (sym ((same_answer Outbid a k m i j q p is).0)) e
+      by_letter (Letter.Award k m q) is e = by_award k m q (sym ((same_answer Award a k m i j q p is).kind)) e
+      by_letter (Letter.Refused k m q) is e = by_refused k m q (sym ((same_answer Refused a k m i j q p is).kind)) e
+      by_letter (Letter.Outbid k m q) is e = by_outbid k m q (sym ((same_answer Outbid a k m i j q p is).kind)) e
       by_letter (Letter.Price k q) is e = absurd cc
       by_letter (Letter.Bid k b m q) is e = absurd cc
       by_letter (Letter.First k) is e = absurd cc

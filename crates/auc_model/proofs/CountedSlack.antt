@@ -20,7 +20,7 @@ use Rattle.auc_letters.specs.declared.state.Held.{Held}
 use Rattle.auc_model.specs.Chosen.{ArePricesOf, IsHeldArc}
 use Rattle.auc_model.specs.Schedule.{Reached}
 use Rattle.auc_model.specs.World.{World, phase_of}
-use Rattle.auc_model.proofs.Chosen.{Found, row_arc_listed}
+use Rattle.auc_model.proofs.Chosen.{row_arc_listed}
 use Rattle.auc_model.proofs.Reached.{kept_reached}
 use Rattle.auc_model.proofs.Theorems.{holders_slack, of_every_schedule}
 
@@ -65,27 +65,26 @@ module _ (p : Problem) (t : Table) (shards : ℕ) (eps : ℤ) (v : World) (price
   row_is i l = ap (λ (rows : List (List RowArc)). get_or rows i []) its.rows ∙ get_or-map-range_with_len (λ person. row person p.arcs) 0 p.persons i i [] l (omega arith)
 
   pub held_slack_right : (arc : Arc) → arc.person < p.persons → IsHeldArc p v arc → IsSlackRight eps (scale_of p) prices p.arcs arc
-  unfolding Found
   held_slack_right arc below h k d lt his =
       let right = holders_slack (phase_of t shards eps) v reached arc.object h.held h.holds in
       let who = h.person in
-      let own : Contains (row_of t arc.person) right.0 = subst (λ (i : ℕ). Contains (row_of t i) right.0) who right.1 in
-      let found = row_arc_listed arc.person 0 p.arcs right.0 (rw (row_is arc.person below) at own) in
-      let stands = right.3 in
-      let at = found.2 in
-      let place : h.held.arc ≡ found.0 = omega (arith, stands, at) in
+      let own : Contains (row_of t arc.person) right.arc = subst (λ (i : ℕ). Contains (row_of t i) right.arc) who right.listed in
+      let found = row_arc_listed arc.person 0 p.arcs right.arc (rw (row_is arc.person below) at own) in
+      let own_place = right.place in
+      let at = found.numbered in
+      let place : h.held.arc ≡ found.place = omega (arith, own_place, at) in
       let held_place : slice_get p.arcs h.held.arc ≡ Some arc = h.place in
-      let there_place : slice_get p.arcs h.held.arc ≡ slice_get p.arcs found.0 = ap (slice_get p.arcs) place in
-      let found_place : slice_get p.arcs found.0 ≡ Some (get_or p.arcs found.0 arc) = slice_get-get_or p.arcs found.0 arc found.1 in
-      let same : arc ≡ get_or p.arcs found.0 arc = some_same (sym held_place ∙ (there_place ∙ found_place)) in
-      let cost : right.0.cost ≡ arc.cost = sym (ap (λ (a : Arc). a.cost) (same ∙ found.3 arc)) in
-      let mine = same_value v.price prices true_prices (length t.rows) p.persons right.0.cost arc.cost right.0.object arc.object persons_are cost right.2 in
+      let there_place : slice_get p.arcs h.held.arc ≡ slice_get p.arcs found.place = ap (slice_get p.arcs) place in
+      let found_place : slice_get p.arcs found.place ≡ Some (get_or p.arcs found.place arc) = slice_get-get_or p.arcs found.place arc found.known in
+      let same : arc ≡ get_or p.arcs found.place arc = some_same (sym held_place ∙ (there_place ∙ found_place)) in
+      let cost : right.arc.cost ≡ arc.cost = sym (ap (λ (a : Arc). a.cost) (same ∙ found.there arc)) in
+      let mine = same_value v.price prices true_prices (length t.rows) p.persons right.arc.cost arc.cost right.arc.object arc.object persons_are cost right.leads in
       let b : Arc = get_or p.arcs k d in
       let listed : Contains (row_of t arc.person) (row_arc (0 + k, b)) = rw (row_is arc.person below) (in_row arc.person 0 p.arcs b k lt (get_or_self p.arcs k d lt) his) in
       let theirs = same_value v.price prices true_prices (length t.rows) p.persons b.cost b.cost b.object b.object persons_are refl refl in
       let there : Contains (row_of t h.held.person) (row_arc (0 + k, b)) = subst (λ (i : ℕ). Contains (row_of t i) (row_arc (0 + k, b))) (sym who) listed in
-      let le : (pos (length t.rows + 1) *ℤ right.0.cost +ℤ v.price right.0.object) ≤ℤ ((pos (length t.rows + 1) *ℤ b.cost +ℤ v.price b.object) +ℤ eps) =
-      subst (λ (a : RowArc). (pos (length t.rows + 1) *ℤ right.0.cost +ℤ v.price right.0.object) ≤ℤ ((pos (length t.rows + 1) *ℤ a.cost +ℤ v.price a.object) +ℤ eps)) there.2 (right.4 there.0 (row_arc (0 + k, b)) there.1) in
+      let le : (pos (length t.rows + 1) *ℤ right.arc.cost +ℤ v.price right.arc.object) ≤ℤ ((pos (length t.rows + 1) *ℤ b.cost +ℤ v.price b.object) +ℤ eps) =
+      subst (λ (a : RowArc). (pos (length t.rows + 1) *ℤ right.arc.cost +ℤ v.price right.arc.object) ≤ℤ ((pos (length t.rows + 1) *ℤ a.cost +ℤ v.price a.object) +ℤ eps)) there.2 (right.slack there.0 (row_arc (0 + k, b)) there.1) in
       omega (arith, ints, le, mine, theirs)
 
 pub held_costs_least : (p : Problem) (t : Table) (shards : ℕ) (v : World) (prices : List ℤ) (choice : List Arc) → IsTableOf p t → Reached (phase_of t shards (pos 1)) v → ArePricesOf v prices → length prices ≡ p.objects
@@ -111,7 +110,7 @@ module _ (p : Problem) (t : Table) (shards : ℕ) (eps : ℤ) (v : World) (choic
       let own : IsHeldArc p v a = held h.person d l in
       let his : a.person ≡ 0 + h.person = sym (get_or-map person_of choice h.person d 0 l) ∙ (ap (λ (xs : List ℕ). get_or xs h.person 0) given.persons ∙ get_or-range_with_len 0 p.persons h.person 0 (omega (arith, l, many))) in
       let who = own.person in
-      let once : j ≡ a.object = (of_every_schedule (phase_of t shards eps) v reached).2 j a.object h own.held e own.holds (omega (arith, his, who)) in
+      let once : j ≡ a.object = (of_every_schedule (phase_of t shards eps) v reached).held_once j a.object h own.held e own.holds (omega (arith, his, who)) in
       (h.person, rw (length-map choice object_of) l, get_or-map object_of choice h.person d j l ∙ sym once)
 
   pub left_unheld : (j : ℕ) → (Contains (map object_of choice) j → ⊥) → v.holder j ≡ None

@@ -70,6 +70,12 @@ Alike w r s u v = Same r s u v ⊎ TakesOfTwoSenders w u v
 both_as : (r s t : TurnReply) (u v z : World) → r ≡ t → s ≡ t → u ≡ z → v ≡ z → Same r s u v
 both_as r s t u v z a b c d = (a ∙ sym b, c ∙ sym d)
 
+-- two bids, of m on a and of n on b, are on one object, by one place of the list, with one amount
+record SameBid (a b : RowArc) (m n : ℤ) : Type 0 where
+  object : a.object ≡ b.object
+  place : a.arc ≡ b.arc
+  amount : m ≡ n
+
 module _ (g : Phase) (w : World) where
   -- Bid(s)
   module _ (s : ℕ) where
@@ -88,18 +94,18 @@ module _ (g : Phase) (w : World) where
     no_row : (i : ℕ) (a : RowArc) → g.row i ≡ [] → Contains (g.row i) a → ⊥
     no_row i a e c = let l = c.1 in let n : length (g.row i) ≡ 0 = ap length e in omega (arith, l, n)
 
-    same_bid : (i : ℕ) (a b : RowArc) (m n : ℤ) → Bids g w s i a m → Bids g w s i b n → (a.object ≡ b.object) × (a.arc ≡ b.arc) × (m ≡ n)
-    same_bid i a b m n x y = (
-      same_object (scale g) g.spread g.eps (w.copy s) (g.row i) a b x.best y.best,
-      same_place (scale g) g.spread g.eps (w.copy s) (g.row i) a b x.best y.best,
-      same_amount (scale g) g.spread g.eps (w.copy s) (g.row i) a b x.best y.best m n x.amount_is y.amount_is,
-    )
+    same_bid : (i : ℕ) (a b : RowArc) (m n : ℤ) → Bids g w s i a m → Bids g w s i b n → SameBid a b m n
+    same_bid i a b m n x y = record {
+      object = same_object (scale g) g.spread g.eps (w.copy s) (g.row i) a b x.best y.best;
+      place = same_place (scale g) g.spread g.eps (w.copy s) (g.row i) a b x.best y.best;
+      amount = same_amount (scale g) g.spread g.eps (w.copy s) (g.row i) a b x.best y.best m n x.amount_is y.amount_is;
+    }
 
     -- a person that bids isn't one that can't
     stops_not : (i : ℕ) (y : Why) (a : RowArc) (m : ℤ) → Stops g w s i y → w.bids_left s ≢ 0 → Bids g w s i a m → m ≤ℤ pos (2 ^ 61) → ⊥
     stops_not i Why.Bids a m h left b low = left h
     stops_not i Why.Stuck a m h left b low = no_row i a h.1 b.best.listed
-    stops_not i Why.Ceiling a m h left b low = let e = (same_bid i h.1.0 a h.1.1 m h.1.2 b).2 in let high = h.1.3 in omega (arith, ints, e, high, low)
+    stops_not i Why.Ceiling a m h left b low = let e = (same_bid i h.arc a h.amount m h.bid b).amount in let high = h.above in omega (arith, ints, e, high, low)
     stops_not i Why.Posts a m h left b low = h
     stops_not i Why.Trail a m h left b low = h
     stops_not i Why.Mail a m h left b low = h
@@ -110,12 +116,12 @@ module _ (g : Phase) (w : World) where
     same_why : (i : ℕ) (y z : Why) → Stops g w s i y → Stops g w s i z → y ≡ z
     same_why i Why.Bids Why.Bids h k = refl
     same_why i Why.Bids Why.Stuck h k = absurd (k.0 h)
-    same_why i Why.Bids Why.Ceiling h k = absurd (k.0 h)
+    same_why i Why.Bids Why.Ceiling h k = absurd (k.left h)
     same_why i Why.Stuck Why.Bids h k = absurd (h.0 k)
     same_why i Why.Stuck Why.Stuck h k = refl
-    same_why i Why.Stuck Why.Ceiling h k = absurd (no_row i k.1.0 h.1 k.1.2.best.listed)
-    same_why i Why.Ceiling Why.Bids h k = absurd (h.0 k)
-    same_why i Why.Ceiling Why.Stuck h k = absurd (no_row i h.1.0 k.1 h.1.2.best.listed)
+    same_why i Why.Stuck Why.Ceiling h k = absurd (no_row i k.arc h.1 k.bid.best.listed)
+    same_why i Why.Ceiling Why.Bids h k = absurd (h.left k)
+    same_why i Why.Ceiling Why.Stuck h k = absurd (no_row i h.arc k.1 h.bid.best.listed)
     same_why i Why.Ceiling Why.Ceiling h k = refl
     same_why i Why.Posts z h k = absurd h
     same_why i Why.Trail z h k = absurd h
@@ -150,7 +156,7 @@ module _ (g : Phase) (w : World) where
     same_bid_turn r t u v (BidTurn.bids i xs a m p left best low e1 e) (BidTurn.bids j ys b n o more better below f1 f) =
         let i_is = same_first i j xs ys p o in
         let x = same_bid i a b m n best (subst (λ (k : ℕ). Bids g w s k b n) (sym i_is) better) in
-        let same : after_bid g w s i xs a m ≡ after_bid g w s j ys b n = after_same i j xs ys a.object b.object a.arc b.arc m n i_is (same_rest i j xs ys p o) x.0 x.1 x.2 in
+        let same : after_bid g w s i xs a m ≡ after_bid g w s j ys b n = after_same i j xs ys a.object b.object a.arc b.arc m n i_is (same_rest i j xs ys p o) x.object x.place x.amount in
         (e1 ∙ sym f1, e ∙ (same ∙ sym f))
 
   -- Tell(q, j, s)
@@ -378,7 +384,7 @@ module _ (g : Phase) (w : World) where
     closes_not : (name : MailName) (at : ℕ) (m : Mail Letter) → ((HasBox (mail_named w name) at → ⊥) ⊎ (w.end ≡ None) ⊎ IsClosed (mail_named w name) at) → HasBox (mail_named w name) at → w.end ≢ None → Step (mail_named w name) (Call.Close at) (Reply.WasOpen true) m → ⊥
     closes_not name at m (inl h) a b c = h a
     closes_not name at m (inr (inl h)) a b c = b h
-    closes_not name at m (inr (inr h)) a b c = let o = c.0 in cc
+    closes_not name at m (inr (inr h)) a b c = let o = c.was in cc
 
     same_close : (name : MailName) (at : ℕ) (r s : TurnReply) (u v : World) → HubCloseTurn w name at r u → HubCloseTurn w name at s v → Same r s u v
     same_close name at r s u v (HubCloseTurn.leaves h e1 e) (HubCloseTurn.leaves k f1 f) = both_as r s TurnReply.Nothing u v w e1 f1 e f

@@ -116,7 +116,7 @@ end_move_stays g w v d h (EndMove.counts l c e) =
 
 pub end_schedule : (g : Phase) (w : World) (ts : List Turn) (v : World) (d : End) → Schedule g w ts v → w.end ≡ Some d → v.end ≡ Some d
 end_schedule g w [] v d e h = ap (λ (x : World). x.end) e ∙ h
-end_schedule g w (t ∷ ts) v d run h = end_schedule g run.0 ts v d run.3 (end_move_stays g w run.0 d h (turn_end g w t run.1 run.0 run.2))
+end_schedule g w (t ∷ ts) v d run h = end_schedule g run.mid ts v d run.rest (end_move_stays g w run.mid d h (turn_end g w t run.reply run.mid run.turned))
 
 -- the end is All only if every person was counted
 abbrev pub AllCounted : Phase → World → Type 0
@@ -137,7 +137,7 @@ all_counted_move g w v (EndMove.counts l c e) h all =
 
 pub all_schedule : (g : Phase) (w : World) (ts : List Turn) (v : World) → Schedule g w ts v → AllCounted g w → AllCounted g v
 all_schedule g w [] v e h all = ap (λ (x : World). x.count) e ∙ h (sym (ap (λ (x : World). x.end) e) ∙ all)
-all_schedule g w (t ∷ ts) v run h all = all_schedule g run.0 ts v run.3 (all_counted_move g w run.0 (turn_end g w t run.1 run.0 run.2) h) all
+all_schedule g w (t ∷ ts) v run h all = all_schedule g run.mid ts v run.rest (all_counted_move g w run.mid (turn_end g w t run.reply run.mid run.turned) h) all
 
 -- if every person was counted, the end is set
 abbrev pub EndsCounted : Phase → World → Type 0
@@ -156,7 +156,7 @@ ends_counted_move g w v (EndMove.counts l c e) h all none =
 
 pub ends_counted_schedule : (g : Phase) (w : World) (ts : List Turn) (v : World) → Schedule g w ts v → EndsCounted g w → EndsCounted g v
 ends_counted_schedule g w [] v e h all none = h (sym (ap (λ (x : World). x.count) e) ∙ all) (sym (ap (λ (x : World). x.end) e) ∙ none)
-ends_counted_schedule g w (t ∷ ts) v run h all none = ends_counted_schedule g run.0 ts v run.3 (ends_counted_move g w run.0 (turn_end g w t run.1 run.0 run.2) h) all none
+ends_counted_schedule g w (t ∷ ts) v run h all none = ends_counted_schedule g run.mid ts v run.rest (ends_counted_move g w run.mid (turn_end g w t run.reply run.mid run.turned) h) all none
 
 -- an end that is not set was not set before
 pub end_back : (g : Phase) (w v : World) → EndMove g w v → v.end ≡ None → w.end ≡ None

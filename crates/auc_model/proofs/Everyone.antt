@@ -74,7 +74,7 @@ module _ (g : Phase) (w : World) (c : Channels) (law : Lawful g) (inv : Inv g w 
     busy_here =
         let t = total_add (λ k. waits_one (w.state k)) (λ k. holds_one (w.state k)) g.persons in
         let a = all_told g w c inv.counts all in
-        full_at (λ k. waits_one (w.state k) + holds_one (w.state k)) g.persons i (λ m. one (w.state m)) (omega (arith, t, a.4)) known
+        full_at (λ k. waits_one (w.state k) + holds_one (w.state k)) g.persons i (λ m. one (w.state m)) (omega (arith, t, a.busy)) known
       where
         one : (t : PersonState) → waits_one t + holds_one t ≤ 1
         one Free = omega arith
@@ -82,14 +82,14 @@ module _ (g : Phase) (w : World) (c : Channels) (law : Lawful g) (inv : Inv g w 
         one (Holds j) = omega arith
 
     no_bids : (j : ℕ) → bids_in g c i j ≡ 0
-    no_bids j = no_bid_seen i j (c (To.Object (j % g.shards)) (i % g.shards)) (channel_zero g bid_one c ((all_told g w c inv.counts all).1) (To.Object (j % g.shards)) (i % g.shards) (omega (arith, law.some_shards)) (omega (arith, law.some_shards)))
+    no_bids j = no_bid_seen i j (c (To.Object (j % g.shards)) (i % g.shards)) (channel_zero g bid_one c ((all_told g w c inv.counts all).no_bids) (To.Object (j % g.shards)) (i % g.shards) (omega (arith, law.some_shards)) (omega (arith, law.some_shards)))
 
     just_awards : (j : ℕ) → AllAwards (answers_in g c i j)
     just_awards j =
         let a = all_told g w c inv.counts all in
         awards_seen i j (c (To.Person (i % g.shards)) (g.shards + j % g.shards))
-        (channel_zero g refused_one c a.2 (To.Person (i % g.shards)) (g.shards + j % g.shards) (omega (arith, law.some_shards)) (omega (arith, law.some_shards)))
-        (channel_zero g outbid_one c a.3 (To.Person (i % g.shards)) (g.shards + j % g.shards) (omega (arith, law.some_shards)) (omega (arith, law.some_shards)))
+        (channel_zero g refused_one c a.no_refusals (To.Person (i % g.shards)) (g.shards + j % g.shards) (omega (arith, law.some_shards)) (omega (arith, law.some_shards)))
+        (channel_zero g outbid_one c a.no_outbids (To.Person (i % g.shards)) (g.shards + j % g.shards) (omega (arith, law.some_shards)) (omega (arith, law.some_shards)))
 
     pub holds_some : (j : ℕ) × (is_held_by (person_of (w.holder j)) i ≡ true)
     holds_some = by_state (w.state i) refl

@@ -73,16 +73,16 @@ module _ (g : Phase) (w : World) (lost : Lost) (law : Lawful g) (inv : Inv g w (
     where
       by : (t : To) (l : Letter) → o.to ≡ t → o.letter ≡ l → is_price l ≡ false → Routed g t (sender g h) l → 0 < free_of (mail_of w t)
       by To.Hub l e f n r = hub_fits
-      by (To.Object q) (Letter.Bid i a j p) e f n r = room_for_bid g w lost inv h o rest in_range full q e (let m = r.3 in omega (arith, m, law.some_shards)) shapes.objects room.objects_nodes (rw f)
+      by (To.Object q) (Letter.Bid i a j p) e f n r = room_for_bid g w lost inv h o rest in_range full q e (let m = r.shard in omega (arith, m, law.some_shards)) shapes.objects room.objects_nodes (rw f)
       by (To.Object q) (Letter.Award i j p) e f n r = absurd r
       by (To.Object q) (Letter.Refused i j p) e f n r = absurd r
       by (To.Object q) (Letter.Outbid i j p) e f n r = absurd r
       by (To.Object q) (Letter.Price j p) e f n r = absurd r
       by (To.Object q) (Letter.First j) e f n r = absurd r
       by (To.Object q) (Letter.Stop y) e f n r = absurd r
-      by (To.Person s) (Letter.Award i j p) e f n r = room_for_answer g w lost inv h o rest in_range full s e (let m = r.1 in omega (arith, m, law.some_shards)) shapes.persons room.persons_nodes room.few_prices (rw f)
-      by (To.Person s) (Letter.Refused i j p) e f n r = room_for_answer g w lost inv h o rest in_range full s e (let m = r.1 in omega (arith, m, law.some_shards)) shapes.persons room.persons_nodes room.few_prices (rw f)
-      by (To.Person s) (Letter.Outbid i j p) e f n r = room_for_answer g w lost inv h o rest in_range full s e (let m = r.1 in omega (arith, m, law.some_shards)) shapes.persons room.persons_nodes room.few_prices (rw f)
+      by (To.Person s) (Letter.Award i j p) e f n r = room_for_answer g w lost inv h o rest in_range full s e (let m = r.shard in omega (arith, m, law.some_shards)) shapes.persons room.persons_nodes room.few_prices (rw f)
+      by (To.Person s) (Letter.Refused i j p) e f n r = room_for_answer g w lost inv h o rest in_range full s e (let m = r.shard in omega (arith, m, law.some_shards)) shapes.persons room.persons_nodes room.few_prices (rw f)
+      by (To.Person s) (Letter.Outbid i j p) e f n r = room_for_answer g w lost inv h o rest in_range full s e (let m = r.shard in omega (arith, m, law.some_shards)) shapes.persons room.persons_nodes room.few_prices (rw f)
       by (To.Person s) (Letter.Price j p) e f n r = absurd cc
       by (To.Person s) (Letter.Bid i a j p) e f n r = absurd r
       by (To.Person s) (Letter.First j) e f n r = absurd r

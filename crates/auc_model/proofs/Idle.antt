@@ -27,12 +27,27 @@ is_free-true Free e = refl
 is_free-true (Waits j) e = cc
 is_free-true (Holds j) e = cc
 
--- an entry of the list of a shard is a free person of it
-pub idle_facts : (g : Phase) (t : PersonState) (s i n : ℕ) → suc n ≡ free_in g t s i → (t ≡ Free) × (i % g.shards ≡ s) × (i < g.persons) × (n ≡ 0)
-idle_facts g t s i n e = (is_free-true t parts.0, parts.1, parts.2, parts.3)
+-- an entry of the list of a shard is a free person of it, and it is n times among the others
+pub record IsIdle (g : Phase) (t : PersonState) (s i n : ℕ) : Type 0 where
+  pub free : t ≡ Free
+  pub shard : i % g.shards ≡ s
+  pub known : i < g.persons
+  pub once : n ≡ 0
+
+pub idle_facts : (g : Phase) (t : PersonState) (s i n : ℕ) → suc n ≡ free_in g t s i → IsIdle g t s i n
+idle_facts g t s i n e = record { free = is_free-true t free; shard = shard; known = known; once = once }
   where
-    parts : (is_free t ≡ true) × (i % g.shards ≡ s) × (i < g.persons) × (n ≡ 0)
-    parts = grind (arith, nat_tests)
+    free : is_free t ≡ true
+    free = grind (arith, nat_tests)
+
+    shard : i % g.shards ≡ s
+    shard = grind (arith, nat_tests)
+
+    known : i < g.persons
+    known = grind (arith, nat_tests)
+
+    once : n ≡ 0
+    once = grind (arith, nat_tests)
 
 free_in_busy : (g : Phase) (t : PersonState) (s i : ℕ) → is_free t ≡ false → free_in g t s i ≡ 0
 free_in_busy g t s i e = grind (arith, nat_tests)
@@ -46,7 +61,7 @@ free_in_free g s i e h = grind (arith, nat_tests)
 module _ (g : Phase) (state : ℕ → PersonState) (idle : ℕ → List ℕ) (all : (s i : ℕ) → occurs i (idle s) ≡ free_in g (state i) s i) where
   -- the first one bids
   module _ (s i j : ℕ) (rest : List ℕ) (first : idle s ≡ i ∷ rest) where
-    pub bid_facts : (state i ≡ Free) × (i % g.shards ≡ s) × (i < g.persons) × (occurs i rest ≡ 0)
+    pub bid_facts : IsIdle g (state i) s i (occurs i rest)
     bid_facts = let h = all s i in idle_facts g (state i) s i (occurs i rest) (grind (arith, nat_tests))
 
     bid_same : (k : ℕ) → k ≢ i → occurs k (idle s) ≡ occurs k rest
@@ -60,12 +75,12 @@ module _ (g : Phase) (state : ℕ → PersonState) (idle : ℕ → List ℕ) (al
         ]
       where
         itself : (t k : ℕ) → k ≡ i → t ≡ s → occurs k (put idle s rest t) ≡ free_in g (put state i (Waits j) k) t k
-        itself t k e f = rw (put_at idle s rest t f, put_at state i (Waits j) k e, e) (bid_facts.3 ∙ sym (free_in_busy g (Waits j) t i refl))
+        itself t k e f = rw (put_at idle s rest t f, put_at state i (Waits j) k e, e) (bid_facts.once ∙ sym (free_in_busy g (Waits j) t i refl))
 
         itself_else : (t k : ℕ) → k ≡ i → t ≢ s → occurs k (put idle s rest t) ≡ free_in g (put state i (Waits j) k) t k
         itself_else t k e f =
             rw (put_off idle s rest t f, put_at state i (Waits j) k e, e)
-            (all t i ∙ (free_in_else g (state i) t i (λ h. f (sym h ∙ bid_facts.1)) ∙ sym (free_in_busy g (Waits j) t i refl)))
+            (all t i ∙ (free_in_else g (state i) t i (λ h. f (sym h ∙ bid_facts.shard)) ∙ sym (free_in_busy g (Waits j) t i refl)))
 
         other : (t k : ℕ) → k ≢ i → t ≡ s → occurs k (put idle s rest t) ≡ free_in g (put state i (Waits j) k) t k
         other t k e f = rw (put_at idle s rest t f, put_off state i (Waits j) k e, f) (sym (bid_same k e) ∙ all s k)

@@ -39,12 +39,12 @@ module _ (g : Phase) (w : World) where
       rw e (inr (λ b. same_mails_open (with_mail w t m) u h b ∙ (ap (λ (z : Mail Letter). opens (with_mail w t z) b) set ∙ opens_set w t x l b)))
 
   taken_open : (v u : World) (t : To) (x n : ℕ) (l : Letter) (m : Mail Letter) → Takes (mail_of w t) (box_of t) x n l m → v ≡ u → SameMails (with_mail w t m) u → OpenMove w v
-  taken_open v u t x n l m p e h = lane_open v u t x (record { taken = n; waiting = p.3.0 }) m p.3.2 e h
+  taken_open v u t x n l m p e h = lane_open v u t x (record { taken = n; waiting = p.rest }) m p.next e h
 
   post_open : (h : Shard) (r : TurnReply) (v : World) → PostTurn g w h r v → OpenMove w v
   post_open h r v (PostTurn.no_letter q e1 e) = same_open v w e (record { objects = refl; persons = refl; hub = refl })
   post_open h r v (PostTurn.posts o rest n m may p e1 e) =
-      lane_open v (with_outbox (with_mail w o.to m) h rest) o.to (sender g h) (lane_behind (lane_of (mail_of w o.to) (box_of o.to) (sender g h)) o.letter) m p.5 e (same_outbox (with_mail w o.to m) h rest)
+      lane_open v (with_outbox (with_mail w o.to m) h rest) o.to (sender g h) (lane_behind (lane_of (mail_of w o.to) (box_of o.to) (sender g h)) o.letter) m p.next e (same_outbox (with_mail w o.to m) h rest)
   post_open h r v (PostTurn.meets_closed o rest may p e1 e) = same_open v (with_outbox w h rest) e (same_outbox w h rest)
   post_open h r v (PostTurn.drops_price o rest y may p n i e1 e) = same_open v (with_outbox w h rest) e (same_outbox w h rest)
   post_open h r v (PostTurn.keeps_letter o rest y may p n i e1 e) = same_open v (ended w (reason y)) e (record { objects = refl; persons = refl; hub = refl })

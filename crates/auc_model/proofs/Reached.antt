@@ -44,7 +44,7 @@ kept_reached g v r = kept_schedule g r.start r.turns v r.lawful r.leads (kept_st
 
 -- the number of nodes of a mail never changes
 one_nodes : (w v : World) (name : MailName) → StepsIn w v name → (mail_named v name).nodes ≡ (mail_named w name).nodes
-one_nodes w v name s = elim s.this [ inl e ↦ ap (λ (z : Mail Letter). z.nodes) e | inr h ↦ (step_shape (mail_named w name) (mail_named v name) h.0 h.1 h.2).nodes ]
+one_nodes w v name s = elim s.this [ inl e ↦ ap (λ (z : Mail Letter). z.nodes) e | inr h ↦ (step_shape (mail_named w name) (mail_named v name) h.call h.reply h.step).nodes ]
 
 turn_nodes : (w v : World) (stepped : MailName) → StepsIn w v stepped → (name : MailName) → (mail_named v name).nodes ≡ (mail_named w name).nodes
 turn_nodes w v MailName.Objects s MailName.Objects = one_nodes w v MailName.Objects s
@@ -60,8 +60,8 @@ turn_nodes w v MailName.Hub s MailName.Hub = one_nodes w v MailName.Hub s
 pub schedule_nodes : (g : Phase) (w : World) (ts : List Turn) (v : World) → Schedule g w ts v → (name : MailName) → (mail_named v name).nodes ≡ (mail_named w name).nodes
 schedule_nodes g w [] v e name = ap (λ (x : World). (mail_named x name).nodes) e
 schedule_nodes g w (t ∷ ts) v run name =
-    let s = turn_step g w t run.1 run.0 run.2 in
-    schedule_nodes g run.0 ts v run.3 name ∙ turn_nodes w run.0 s.0 s.1 name
+    let s = turn_step g w t run.reply run.mid run.turned in
+    schedule_nodes g run.mid ts v run.rest name ∙ turn_nodes w run.mid s.0 s.1 name
 
 pub room_reached : (g : Phase) (v : World) → Reached g v → UsualNodes g v → Room g v
 room_reached g v r usual =

@@ -37,8 +37,8 @@ module _ (g : Phase) (w : World) where
   post_rests h l (PostTurn.keeps_letter o rest y may p n i e1 e) = moved_not e1
 
   nothing_in : (m : Mail Letter) (b : ℕ) → TakesNone m b → NothingWaits m b
-  nothing_in m b (inl empty) = empty.1
-  nothing_in m b (inr over) = over.1
+  nothing_in m b (inl empty) = empty.nothing
+  nothing_in m b (inr over) = over.nothing
 
   object_take_rests : (q : ℕ) → q < g.shards → w.object_out q ≡ [] → ObjectTakeTurn g w q TurnReply.Nothing w → NothingWaits w.objects_mail q
   object_take_rests q l none (ObjectTakeTurn.no_letter (inl past) e1 e) = within q l past

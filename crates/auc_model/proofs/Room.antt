@@ -98,7 +98,7 @@ module _ (g : Phase) (w : World) (law : Lawful g) (k : Kept g w) (room : Room g 
   never_full h o rest l e p i =
       let f = finds_room g w k.lost law k.inv k.shapes room h o rest l e i in
       let r : o.reserve ≡ 0 = head_reserve h o rest e ∙ rw i in
-      omega (arith, f, r, p.2)
+      omega (arith, f, r, p.full)
 
   -- a letter that is not a price never meets Full, so the world does not end by the mail
   room_kept : (h : Shard) (o : Out) (rest : List Out) (y : PostRefused) → number h < g.shards → outbox w h ≡ o ∷ rest → y ≢ PostRefused.Closed → Refuses g w h o y → is_price o.letter ≡ false → Room g (ended w (reason y))
@@ -133,7 +133,7 @@ module _ (g : Phase) (w : World) (law : Lawful g) (k : Kept g w) (room : Room g 
       same_end : v.end ≡ w.end
 
     nodes_posted : (n : ℕ) (m : Mail Letter) → Posts g w h o n m → m.nodes ≡ (mail_of w o.to).nodes
-    nodes_posted n m p = ap (λ (z : Mail Letter). z.nodes) p.5
+    nodes_posted n m p = ap (λ (z : Mail Letter). z.nodes) p.next
 
     moved : (t : To) (n : ℕ) (m : Mail Letter) → o.to ≡ t → Posts g w h o n m → Moved (with_mail w t m)
     moved (To.Object q) n m e p =
@@ -291,7 +291,7 @@ module _ (g : Phase) (w : World) (law : Lawful g) (k : Kept g w) (room : Room g 
 
   -- a take
   nodes_taken : (m n : Mail Letter) (b x i : ℕ) (l : Letter) → Takes m b x i l n → n.nodes ≡ m.nodes
-  nodes_taken m n b x i l t = ap (λ (z : Mail Letter). z.nodes) t.3.2
+  nodes_taken m n b x i l t = ap (λ (z : Mail Letter). z.nodes) t.next
 
   -- the persons mail was taken from, and the tables are as they may be
   room_persons : (v : World) (s x n : ℕ) (l : Letter) → Takes w.persons_mail s x n l v.persons_mail → v.objects_mail ≡ w.objects_mail → v.hub_mail ≡ w.hub_mail → v.person_out ≡ w.person_out → v.object_out ≡ w.object_out → v.has_stopped ≡ w.has_stopped
@@ -447,8 +447,8 @@ module _ (g : Phase) (w : World) (law : Lawful g) (k : Kept g w) (room : Room g 
   room_turn (Turn.Tell q j s) r v h = room_tell q j s r v h
   room_turn Turn.HubTake r v h = room_hub_take r v h
   room_turn (Turn.HubClose name b) r v (HubCloseTurn.leaves h e1 e) = rw e room
-  room_turn (Turn.HubClose name b) r v (HubCloseTurn.closes m h1 h2 h3 e1 e) = rw (e, h3.1) (room_closed name b)
+  room_turn (Turn.HubClose name b) r v (HubCloseTurn.closes m h1 h2 h3 e1 e) = rw (e, h3.next) (room_closed name b)
 
 pub room_schedule : (g : Phase) (w : World) (ts : List Turn) (v : World) → Lawful g → Kept g w → Room g w → Schedule g w ts v → Room g v
 room_schedule g w [] v law k room e = rw e room
-room_schedule g w (t ∷ ts) v law k room h = room_schedule g h.0 ts v law (kept_turn g w law k t h.1 h.0 h.2) (room_turn g w law k room t h.1 h.0 h.2) h.3
+room_schedule g w (t ∷ ts) v law k room h = room_schedule g h.mid ts v law (kept_turn g w law k t h.reply h.mid h.turned) (room_turn g w law k room t h.reply h.mid h.turned) h.rest

@@ -6,7 +6,19 @@ abbrev pub from_some : {X : Type 0} → X → Option X → X
 from_some d None = d
 from_some d (Some x) = x
 
-pub same_answer : (a b : Answer) (i j k l : ℕ) (p q : ℤ) → (let x : Option (Answer × ℕ × ℕ × ℤ) = Some (a, i, j, p) in let y : Option (Answer × ℕ × ℕ × ℤ) = Some (b, k, l, q) in x ≡ y) → (a ≡ b) × (i ≡ k) × (j ≡ l) × (p ≡ q)
+-- two answers, to persons i and k about j and l with the prices p and q, are the same
+pub record SameAnswer (a b : Answer) (i j k l : ℕ) (p q : ℤ) : Type 0 where
+  pub kind : a ≡ b
+  pub person : i ≡ k
+  pub object : j ≡ l
+  pub price : p ≡ q
+
+pub same_answer : (a b : Answer) (i j k l : ℕ) (p q : ℤ) → (let x : Option (Answer × ℕ × ℕ × ℤ) = Some (a, i, j, p) in let y : Option (Answer × ℕ × ℕ × ℤ) = Some (b, k, l, q) in x ≡ y) → SameAnswer a b i j k l p q
 same_answer a b i j k l p q e =
     let t = ap (from_some {X = Answer × ℕ × ℕ × ℤ} (a, i, j, p)) e in
-    (ap (λ (z : Answer × ℕ × ℕ × ℤ). z.0) t, ap (λ (z : Answer × ℕ × ℕ × ℤ). z.1) t, ap (λ (z : Answer × ℕ × ℕ × ℤ). z.2) t, ap (λ (z : Answer × ℕ × ℕ × ℤ). z.3) t)
+    record {
+      kind = ap (λ (z : Answer × ℕ × ℕ × ℤ). z.0) t;
+      person = ap (λ (z : Answer × ℕ × ℕ × ℤ). z.1) t;
+      object = ap (λ (z : Answer × ℕ × ℕ × ℤ). z.2) t;
+      price = ap (λ (z : Answer × ℕ × ℕ × ℤ). z.3) t;
+    }

@@ -180,12 +180,12 @@ module _ (g : Phase) (w : World) (law : Lawful g) (k : Kept g w) where
       let post : Call Letter = Call.Post (sender g h) (box_of o.to) o.letter o.reserve in
       rw e
       (kept_by u (shapes_outbox g (with_mail w o.to m) h rest (shapes_step g w k.shapes o.to m post (Reply.Posted n) p)) k.lost c
-      (posted_open h o rest m (lane_behind (lane_of (mail_of w o.to) (box_of o.to) (sender g h)) o.letter) p.5)
-      (channels_posted g w h o rest may.known may.first n m (whole_of g w k.shapes o.to) p k.lost (k.only_closed o.to (sender g h) p.1))
+      (posted_open h o rest m (lane_behind (lane_of (mail_of w o.to) (box_of o.to) (sender g h)) o.letter) p.next)
+      (channels_posted g w h o rest may.known may.first n m (whole_of g w k.shapes o.to) p k.lost (k.only_closed o.to (sender g h) p.accepts))
       (posted_inv h o rest m))
   kept_post h r v (PostTurn.meets_closed o rest may p e1 e) =
       rw e (kept_outbox h rest (lost_more g w h o rest may.known may.first k.lost) c
-      (open_more w o.to (sender g h) (k.lost o.to (sender g h) ++ o.letter ∷ []) k.lost p.0 k.only_closed)
+      (open_more w o.to (sender g h) (k.lost o.to (sender g h) ++ o.letter ∷ []) k.lost p.closed k.only_closed)
       (channels_closed g w h o rest may.known may.first k.lost) k.inv)
   kept_post h r v (PostTurn.drops_price o rest y may p n i e1 e) =
       rw e (kept_outbox h rest k.lost (set_channel c o.to (sender g h) (ahead g w h o rest may.known may.first k.lost ++ letters_to o.to rest)) k.only_closed
@@ -202,7 +202,7 @@ module _ (g : Phase) (w : World) (law : Lawful g) (k : Kept g w) where
   -- a take from one of the mails, and the place of its letters
   taken_open : (t : To) (x n : ℕ) (l : Letter) (m : Mail Letter) → Takes (mail_of w t) (box_of t) x n l m → Open (with_mail w t m) k.lost
   taken_open t x n l m p =
-      open_by w (with_mail w t m) k.lost (λ u z. sym (opens_set w t x (record { taken = n; waiting = p.3.0 }) u) ∙ (rw p.3.2 at z)) k.only_closed
+      open_by w (with_mail w t m) k.lost (λ u z. sym (opens_set w t x (record { taken = n; waiting = p.rest }) u) ∙ (rw p.next at z)) k.only_closed
 
   taken_shapes : (t : To) (x n : ℕ) (l : Letter) (m : Mail Letter) → Takes (mail_of w t) (box_of t) x n l m → Shapes g (with_mail w t m)
   taken_shapes t x n l m p = shapes_step g w k.shapes t m (Call.Take (box_of t)) (Reply.Took (Taken.Letter x n l)) p
@@ -405,7 +405,7 @@ module _ (g : Phase) (w : World) (law : Lawful g) (k : Kept g w) where
   kept_closed name b known =
       let u : World = with_mail_named w name (with_closed (mail_named w name) b) in
       kept_by g w law k u
-      (shapes_named g w k.shapes name (with_closed (mail_named w name) b) (Call.Close b) (Reply.WasOpen (is_open (mail_named w name) b)) (refl, refl, known))
+      (shapes_named g w k.shapes name (with_closed (mail_named w name) b) (Call.Close b) (Reply.WasOpen (is_open (mail_named w name) b)) (record { was = refl; next = refl; box = known }))
       k.lost (channels g w k.lost)
       (open_by w u k.lost (opens_before w name b) k.only_closed)
       (channels_close g w k.lost name b)
@@ -418,7 +418,7 @@ module _ (g : Phase) (w : World) (law : Lawful g) (k : Kept g w) where
 
   kept_hub_close : (name : MailName) (b : ℕ) (r : TurnReply) (v : World) → HubCloseTurn w name b r v → Kept g v
   kept_hub_close name b r v (HubCloseTurn.leaves h e1 e) = rw e k
-  kept_hub_close name b r v (HubCloseTurn.closes m h1 h2 h3 e1 e) = rw (e, h3.1) (kept_closed name b h1)
+  kept_hub_close name b r v (HubCloseTurn.closes m h1 h2 h3 e1 e) = rw (e, h3.next) (kept_closed name b h1)
 
   pub kept_turn : (t : Turn) (r : TurnReply) (v : World) → Turned g w t r v → Kept g v
   kept_turn (Turn.Bid s) r v h = kept_bid g w law k s r v h
@@ -433,4 +433,4 @@ module _ (g : Phase) (w : World) (law : Lawful g) (k : Kept g w) where
 -- every schedule
 pub kept_schedule : (g : Phase) (w : World) (ts : List Turn) (v : World) → Lawful g → Schedule g w ts v → Kept g w → Kept g v
 kept_schedule g w [] v law e k = rw e k
-kept_schedule g w (t ∷ ts) v law h k = kept_schedule g h.0 ts v law h.3 (kept_turn g w law k t h.1 h.0 h.2)
+kept_schedule g w (t ∷ ts) v law h k = kept_schedule g h.mid ts v law h.rest (kept_turn g w law k t h.reply h.mid h.turned)

@@ -79,19 +79,19 @@ same_to_all w u v e h = rw e h
 
 -- the mail with this name made a step, and w has the others
 named_step : (w v : World) (name : MailName) (m : Mail Letter) (c : Call Letter) (r : Reply Letter) → Step (mail_named w name) c r m → SameMails (with_mail_named w name m) v → OneStep w v
-named_step w v MailName.Objects m c r h e = (MailName.Objects, record { this = inr (c, r, rw e.objects h); others = apart })
+named_step w v MailName.Objects m c r h e = (MailName.Objects, record { this = inr (record { call = c; reply = r; step = rw e.objects h }); others = apart })
   where
     apart : (other : MailName) → other ≢ MailName.Objects → mail_named v other ≡ mail_named w other
     apart MailName.Objects n = absurd (n refl)
     apart MailName.Persons n = e.persons
     apart MailName.Hub n = e.hub
-named_step w v MailName.Persons m c r h e = (MailName.Persons, record { this = inr (c, r, rw e.persons h); others = apart })
+named_step w v MailName.Persons m c r h e = (MailName.Persons, record { this = inr (record { call = c; reply = r; step = rw e.persons h }); others = apart })
   where
     apart : (other : MailName) → other ≢ MailName.Persons → mail_named v other ≡ mail_named w other
     apart MailName.Objects n = e.objects
     apart MailName.Persons n = absurd (n refl)
     apart MailName.Hub n = e.hub
-named_step w v MailName.Hub m c r h e = (MailName.Hub, record { this = inr (c, r, rw e.hub h); others = apart })
+named_step w v MailName.Hub m c r h e = (MailName.Hub, record { this = inr (record { call = c; reply = r; step = rw e.hub h }); others = apart })
   where
     apart : (other : MailName) → other ≢ MailName.Hub → mail_named v other ≡ mail_named w other
     apart MailName.Objects n = e.objects
@@ -182,7 +182,7 @@ module _ (g : Phase) (w : World) where
 -- one schedule after another, and one turn more
 pub schedules_join : (g : Phase) (w : World) (ts us : List Turn) (u v : World) → Schedule g w ts u → Schedule g u us v → Schedule g w (ts ++ us) v
 schedules_join g w [] us u v e b = rw e at b
-schedules_join g w (t ∷ ts) us u v a b = (a.0, a.1, a.2, schedules_join g a.0 ts us u v a.3 b)
+schedules_join g w (t ∷ ts) us u v a b = record { mid = a.mid; reply = a.reply; turned = a.turned; rest = schedules_join g a.mid ts us u v a.rest b }
 
 pub one_more : (g : Phase) (u v : World) (t : Turn) (r : TurnReply) → Turned g u t r v → Schedule g u (t ∷ []) v
-one_more g u v t r h = (v, r, h, refl)
+one_more g u v t r h = record { mid = v; reply = r; turned = h; rest = refl }

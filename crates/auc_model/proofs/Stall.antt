@@ -118,7 +118,7 @@ module _ (g : Phase) (w : World) (law : Lawful g) (k : Kept g w) (yet : OpenYet 
 
   -- a Price is on a channel to a box that is there
   price_box : (t : To) (x : ℕ) (l : Letter) → is_price l ≡ true → Routed g t x l → IsBox g t × (stop_one l ≡ 0)
-  price_box (To.Person s) x (Letter.Price j p) i r = (r.3, refl)
+  price_box (To.Person s) x (Letter.Price j p) i r = (r.shard, refl)
   price_box (To.Object s) x (Letter.Price j p) i r = absurd r
   price_box To.Hub x (Letter.Price j p) i r = absurd r
   price_box t x (Letter.Award k j p) i r = absurd cc
@@ -131,14 +131,14 @@ module _ (g : Phase) (w : World) (law : Lawful g) (k : Kept g w) (yet : OpenYet 
   -- each letter is on a channel to a box that is there
   pub its_box : (t : To) (x : ℕ) (l : Letter) → Routed g t x l → IsBox g t
   its_box To.Hub x l r = tt
-  its_box (To.Person s) x (Letter.Award i j p) r = let e = r.1 in omega (arith, e, law.some_shards)
-  its_box (To.Person s) x (Letter.Refused i j p) r = let e = r.1 in omega (arith, e, law.some_shards)
-  its_box (To.Person s) x (Letter.Outbid i j p) r = let e = r.1 in omega (arith, e, law.some_shards)
-  its_box (To.Person s) x (Letter.Price j p) r = r.3
+  its_box (To.Person s) x (Letter.Award i j p) r = let e = r.shard in omega (arith, e, law.some_shards)
+  its_box (To.Person s) x (Letter.Refused i j p) r = let e = r.shard in omega (arith, e, law.some_shards)
+  its_box (To.Person s) x (Letter.Outbid i j p) r = let e = r.shard in omega (arith, e, law.some_shards)
+  its_box (To.Person s) x (Letter.Price j p) r = r.shard
   its_box (To.Person s) x (Letter.Bid i a j p) r = absurd r
   its_box (To.Person s) x (Letter.First j) r = absurd r
   its_box (To.Person s) x (Letter.Stop y) r = absurd r
-  its_box (To.Object q) x (Letter.Bid i a j p) r = let e = r.3 in omega (arith, e, law.some_shards)
+  its_box (To.Object q) x (Letter.Bid i a j p) r = let e = r.shard in omega (arith, e, law.some_shards)
   its_box (To.Object q) x (Letter.Award i j p) r = absurd r
   its_box (To.Object q) x (Letter.Refused i j p) r = absurd r
   its_box (To.Object q) x (Letter.Outbid i j p) r = absurd r
@@ -158,7 +158,7 @@ module _ (g : Phase) (w : World) (law : Lawful g) (k : Kept g w) (yet : OpenYet 
       (channels_posted g w h o rest may.known may.first n m (whole_of g w k.shapes o.to) p none_lost refl)
       (stopped_outbox (with_mail w o.to m) h rest ∙ stopped_mail w o.to m) refl)
   post_told h r v (PostTurn.meets_closed o rest may p e1 e) before none =
-      absurd (let opened = yet before o.to (its_box o.to (sender g h) o.letter (head_routed h o rest may)) in let closed = p.0 in cc (opened, closed))
+      absurd (let opened = yet before o.to (its_box o.to (sender g h) o.letter (head_routed h o rest may)) in let closed = p.closed in cc (opened, closed))
   post_told h r v (PostTurn.drops_price o rest y may p n i e1 e) before none =
       let a = price_box o.to (sender g h) o.letter i (head_routed h o rest may) in
       rw e (as_told (with_outbox w h rest) (set_channel c o.to (sender g h) (ahead g w h o rest may.known may.first none_lost ++ letters_to o.to rest)) before
@@ -179,7 +179,7 @@ module _ (g : Phase) (w : World) (law : Lawful g) (k : Kept g w) (yet : OpenYet 
 
   -- the sender of the letter is a sender of the mail
   taker : (t : To) (x n : ℕ) (l : Letter) (m : Mail Letter) → Takes (mail_of w t) (box_of t) x n l m → x < senders g
-  taker t x n l m p = rw (shape_of g w k.shapes t).senders_are at p.1
+  taker t x n l m p = rw (shape_of g w k.shapes t).senders_are at p.sender
 
   person_take_told : (s : ℕ) (r : TurnReply) (v : World) → PersonTakeTurn g w s r v → w.end ≡ None → v.end ≡ None → everywhere g stop_one (channels g v none_lost) ≡ stopped_shards g v
   person_take_told s r v (PersonTakeTurn.no_letter h e1 e) before none = rw e (told before)
@@ -275,8 +275,8 @@ pub record Going (g : Phase) (w : World) : Type 0 where
 pub going_schedule : (g : Phase) (w : World) (ts : List Turn) (v : World) → Lawful g → Schedule g w ts v → Going g w → Going g v
 going_schedule g w [] v law e k = rw e k
 going_schedule g w (t ∷ ts) v law h k =
-    going_schedule g h.0 ts v law h.3 (record {
-      kept = kept_turn g w law k.kept t h.1 h.0 h.2;
-      yet = open_turn g w t h.1 h.0 h.2 k.yet;
-      told = told_turn g w law k.kept k.yet k.told t h.1 h.0 h.2;
+    going_schedule g h.mid ts v law h.rest (record {
+      kept = kept_turn g w law k.kept t h.reply h.mid h.turned;
+      yet = open_turn g w t h.reply h.mid h.turned k.yet;
+      told = told_turn g w law k.kept k.yet k.told t h.reply h.mid h.turned;
     })

@@ -41,14 +41,14 @@ module _ (g : Phase) (w : World) (law : Lawful g) (going : Going g w) (still : I
   c = channels g w k.lost
 
   its_sender : (t : To) (x : ℕ) (l : Letter) → Routed g t x l → x < senders g
-  its_sender (To.Person s) x (Letter.Award i j p) r = let e = r.3 in omega (arith, e, law.some_shards)
-  its_sender (To.Person s) x (Letter.Refused i j p) r = let e = r.3 in omega (arith, e, law.some_shards)
-  its_sender (To.Person s) x (Letter.Outbid i j p) r = let e = r.3 in omega (arith, e, law.some_shards)
-  its_sender (To.Person s) x (Letter.Price j p) r = let e = r.1 in omega (arith, e, law.some_shards)
+  its_sender (To.Person s) x (Letter.Award i j p) r = let e = r.channel in omega (arith, e, law.some_shards)
+  its_sender (To.Person s) x (Letter.Refused i j p) r = let e = r.channel in omega (arith, e, law.some_shards)
+  its_sender (To.Person s) x (Letter.Outbid i j p) r = let e = r.channel in omega (arith, e, law.some_shards)
+  its_sender (To.Person s) x (Letter.Price j p) r = let e = r.channel in omega (arith, e, law.some_shards)
   its_sender (To.Person s) x (Letter.Bid i a j p) r = absurd r
   its_sender (To.Person s) x (Letter.First j) r = absurd r
   its_sender (To.Person s) x (Letter.Stop y) r = absurd r
-  its_sender (To.Object q) x (Letter.Bid i a j p) r = let e = r.1 in omega (arith, e, law.some_shards)
+  its_sender (To.Object q) x (Letter.Bid i a j p) r = let e = r.channel in omega (arith, e, law.some_shards)
   its_sender (To.Object q) x (Letter.Award i j p) r = absurd r
   its_sender (To.Object q) x (Letter.Refused i j p) r = absurd r
   its_sender (To.Object q) x (Letter.Outbid i j p) r = absurd r

@@ -24,7 +24,7 @@ use Rattle.auc_model.specs.Put.{put, put2}
 use Rattle.auc_model.specs.Selling.{FitsBid}
 use Rattle.auc_letters.specs.Persons.{is_free}
 use Rattle.auc_model.specs.Start.{Lawful}
-use Rattle.auc_model.specs.Channels.{AllRouted, Routed, ToPerson, Channels, answer_to, bid_by, places, prices, send, set_channel}
+use Rattle.auc_model.specs.Channels.{AllRouted, PriceToPersons, Routed, ToObject, ToPerson, Channels, answer_to, bid_by, places, prices, send, set_channel}
 use Rattle.auc_model.specs.World.{Phase, World, senders}
 use Rattle.auc_model.proofs.CountSteps.{Plus, counts_first, counts_hear, counts_pass, counts_price_gone, counts_refuse, plus_gone, plus_sent}
 use Rattle.auc_model.proofs.Idle.{freed, idle_hear}
@@ -39,18 +39,18 @@ use Rattle.auc_model.proofs.Views.{cases_both, put2_at, put2_off, send_two}
 
 -- what the channel says of an answer
 answer_route : (g : Phase) (s x : ℕ) (l : Letter) (a : Answer) (i j : ℕ) (p : ℤ) → told_answer l ≡ Some (a, i, j, p) → Routed g (To.Person s) x l → ToPerson g s x i j p
-answer_route g s x (Letter.Award k m q) a i j p e r = let t = same_answer Award a k m i j q p e in rw (← t.1, ← t.2, ← t.3) r
-answer_route g s x (Letter.Refused k m q) a i j p e r = let t = same_answer Refused a k m i j q p e in rw (← t.1, ← t.2, ← t.3) r
-answer_route g s x (Letter.Outbid k m q) a i j p e r = let t = same_answer Outbid a k m i j q p e in rw (← t.1, ← t.2, ← t.3) r
+answer_route g s x (Letter.Award k m q) a i j p e r = let t = same_answer Award a k m i j q p e in rw (← t.person, ← t.object, ← t.price) r
+answer_route g s x (Letter.Refused k m q) a i j p e r = let t = same_answer Refused a k m i j q p e in rw (← t.person, ← t.object, ← t.price) r
+answer_route g s x (Letter.Outbid k m q) a i j p e r = let t = same_answer Outbid a k m i j q p e in rw (← t.person, ← t.object, ← t.price) r
 answer_route g s x (Letter.Price k q) a i j p e r = absurd cc
 answer_route g s x (Letter.Bid k b m q) a i j p e r = absurd cc
 answer_route g s x (Letter.First k) a i j p e r = absurd cc
 answer_route g s x (Letter.Stop y) a i j p e r = absurd cc
 
 answer_price : (l : Letter) (a : Answer) (i j : ℕ) (p : ℤ) → told_answer l ≡ Some (a, i, j, p) → told_price l ≡ Some (j, p)
-answer_price (Letter.Award k m q) a i j p e = let t = same_answer Award a k m i j q p e in rw (t.2, t.3)
-answer_price (Letter.Refused k m q) a i j p e = let t = same_answer Refused a k m i j q p e in rw (t.2, t.3)
-answer_price (Letter.Outbid k m q) a i j p e = let t = same_answer Outbid a k m i j q p e in rw (t.2, t.3)
+answer_price (Letter.Award k m q) a i j p e = let t = same_answer Award a k m i j q p e in rw (t.object, t.price)
+answer_price (Letter.Refused k m q) a i j p e = let t = same_answer Refused a k m i j q p e in rw (t.object, t.price)
+answer_price (Letter.Outbid k m q) a i j p e = let t = same_answer Outbid a k m i j q p e in rw (t.object, t.price)
 answer_price (Letter.Price k q) a i j p e = absurd cc
 answer_price (Letter.Bid k b m q) a i j p e = absurd cc
 answer_price (Letter.First k) a i j p e = absurd cc
@@ -83,13 +83,13 @@ module _ (g : Phase) (w : World) (c : Channels) (law : Lawful g) (inv : Inv g w 
     route = answer_route g s x l a i j p is (routed_first g c inv.routed (To.Person s) x l ls first)
 
     first_here : c (To.Person (i % g.shards)) (g.shards + j % g.shards) ≡ l ∷ ls
-    first_here = rw (route.1, ← route.3) first
+    first_here = rw (route.shard, ← route.channel) first
 
     pub answer_fits : Allows (w.state i) a j
     answer_fits = no_stray (places g w c) i j a (filter_map (answer_to i j) ls) (answers_head g c l ls a i j p is first_here) inv.in_place
 
     pub answer_no_less : w.copy s j ≤ℤ p
-    answer_no_less = learns_no_less g w w c l ls s j p (answer_price l a i j p is) (rw (← route.3) first) inv.never_falls
+    answer_no_less = learns_no_less g w w c l ls s j p (answer_price l a i j p is) (rw (← route.channel) first) inv.never_falls
 
     abbrev pub hearing : World
     hearing = record w { persons_mail = m; state = put w.state i (heard a j); idle = put w.idle s (freed a i (w.idle s)); copy = put2 w.copy s j p }
@@ -101,25 +101,25 @@ module _ (g : Phase) (w : World) (c : Channels) (law : Lawful g) (inv : Inv g w 
     inv_hears =
         record {
           routed = routed_popped g c inv.routed (To.Person s) x l ls first;
-          never_falls = rw route.3 (price_learned g w hearing c l ls s j p (answer_price l a i j p is) (rw (← route.3) first) refl refl inv.never_falls);
-          in_place = rw (← route.1, route.3) placed;
+          never_falls = rw route.channel (price_learned g w hearing c l ls s j p (answer_price l a i j p is) (rw (← route.channel) first) refl refl inv.never_falls);
+          in_place = rw (← route.shard, route.channel) placed;
           price_range = inv.price_range;
-          copy_range = copy_put w.copy s j p route.4.low inv.copy_range;
-          idle_is = idle_hear g w.state w.idle inv.idle_is s i j a (fits_busy (w.state i) a j answer_fits) route.1 route.0;
+          copy_range = copy_put w.copy s j p route.price.low inv.copy_range;
+          idle_is = idle_hear g w.state w.idle inv.idle_is s i j a (fits_busy (w.state i) a j answer_fits) route.shard route.person;
           holder_range = inv.holder_range;
           slack_letters = all_gone (SlackLetter g w.price) c inv.slack_letters (To.Person s) x [] l ls first;
           slack_holders = inv.slack_holders;
-          counts = counts_hear g w hearing c (set_channel c (To.Person s) x ls) inv.counts refl refl l a i j p is route.0 answer_fits refl (plus_gone g c (To.Person s) x [] l ls first (let r = route in omega (arith, law.some_shards, r.3)) (let r = route in omega (arith, law.some_shards, r.1)));
+          counts = counts_hear g w hearing c (set_channel c (To.Person s) x ls) inv.counts refl refl l a i j p is route.person answer_fits refl (plus_gone g c (To.Person s) x [] l ls first (let r = route in omega (arith, law.some_shards, r.channel)) (let r = route in omega (arith, law.some_shards, r.shard)));
           sound = inv.sound;
         }
 
   -- PersonTake(s), a price
   module _ (s x : ℕ) (ls : List Letter) (m : Mail Letter) (j : ℕ) (p : ℤ) (first : c (To.Person s) x ≡ Letter.Price j p ∷ ls) where
-    price_route : (j < g.objects) × (x ≡ g.shards + j % g.shards) × IsPrice p × (s < g.shards)
+    price_route : PriceToPersons g s x j p
     price_route = routed_first g c inv.routed (To.Person s) x (Letter.Price j p) ls first
 
     pub price_no_less : w.copy s j ≤ℤ p
-    price_no_less = learns_no_less g w w c (Letter.Price j p) ls s j p refl (rw (← price_route.1) first) inv.never_falls
+    price_no_less = learns_no_less g w w c (Letter.Price j p) ls s j p refl (rw (← price_route.channel) first) inv.never_falls
 
     abbrev pub learning : World
     learning = record w { persons_mail = m; copy = put2 w.copy s j p }
@@ -128,28 +128,28 @@ module _ (g : Phase) (w : World) (c : Channels) (law : Lawful g) (inv : Inv g w 
     inv_learns =
         record {
           routed = routed_popped g c inv.routed (To.Person s) x (Letter.Price j p) ls first;
-          never_falls = rw price_route.1 (price_learned g w learning c (Letter.Price j p) ls s j p refl (rw (← price_route.1) first) refl refl inv.never_falls);
+          never_falls = rw price_route.channel (price_learned g w learning c (Letter.Price j p) ls s j p refl (rw (← price_route.channel) first) refl refl inv.never_falls);
           in_place = place_kept g w learning (set_channel c (To.Person s) x ls) refl refl (place_taken g w w c (To.Person s) x (Letter.Price j p) ls first (λ i k. (refl, refl)) inv.in_place);
           price_range = inv.price_range;
-          copy_range = copy_put w.copy s j p price_route.2.low inv.copy_range;
+          copy_range = copy_put w.copy s j p price_route.price.low inv.copy_range;
           idle_is = inv.idle_is;
           holder_range = inv.holder_range;
           slack_letters = all_gone (SlackLetter g w.price) c inv.slack_letters (To.Person s) x [] (Letter.Price j p) ls first;
           slack_holders = inv.slack_holders;
-          counts = counts_price_gone g w learning c (set_channel c (To.Person s) x ls) inv.counts refl refl refl j p (plus_gone g c (To.Person s) x [] (Letter.Price j p) ls first (let r = price_route in omega (arith, law.some_shards, r.1)) price_route.3);
+          counts = counts_price_gone g w learning c (set_channel c (To.Person s) x ls) inv.counts refl refl refl j p (plus_gone g c (To.Person s) x [] (Letter.Price j p) ls first (let r = price_route in omega (arith, law.some_shards, r.channel)) price_route.shard);
           sound = inv.sound;
         }
 
   -- ObjectTake(q)
   module _ (q x : ℕ) (ls : List Letter) (m : Mail Letter) (i a j : ℕ) (amount : ℤ) (first : c (To.Object q) x ≡ Letter.Bid i a j amount ∷ ls) where
-    bid_route : (i < g.persons) × (i % g.shards ≡ x) × (j < g.objects) × (j % g.shards ≡ q) × IsPrice amount
+    bid_route : ToObject g q x i j amount
     bid_route = routed_first g c inv.routed (To.Object q) x (Letter.Bid i a j amount) ls first
 
     bid_here : c (To.Object (j % g.shards)) (i % g.shards) ≡ Letter.Bid i a j amount ∷ ls
-    bid_here = rw (bid_route.3, bid_route.1) first
+    bid_here = rw (bid_route.shard, bid_route.channel) first
 
     pub bid_fits : FitsBid g q (Letter.Bid i a j amount)
-    bid_fits = (bid_route.2, bid_route.3, bid_route.4)
+    bid_fits = record { object = bid_route.object; shard = bid_route.shard; price = bid_route.price }
 
     abbrev taken : Channels
     taken = set_channel c (To.Object q) x ls
@@ -161,13 +161,13 @@ module _ (g : Phase) (w : World) (c : Channels) (law : Lawful g) (inv : Inv g w 
     never_taken v n = price_taken g v v c (To.Object q) x (Letter.Bid i a j amount) ls first (λ k. refl) n
 
     its_channel : g.shards + q ≡ g.shards + j % g.shards
-    its_channel = ap (λ (n : ℕ). g.shards + n) (sym bid_route.3)
+    its_channel = ap (λ (n : ℕ). g.shards + n) (sym bid_route.shard)
 
     its_sender : g.shards + q < senders g
-    its_sender = let r = bid_route in omega (arith, law.some_shards, r.3)
+    its_sender = let r = bid_route in omega (arith, law.some_shards, r.shard)
 
     bid_gone : Plus g (Letter.Bid i a j amount) taken c
-    bid_gone = plus_gone g c (To.Object q) x [] (Letter.Bid i a j amount) ls first (let r = bid_route in omega (arith, law.some_shards, r.1)) (let r = bid_route in omega (arith, law.some_shards, r.3))
+    bid_gone = plus_gone g c (To.Object q) x [] (Letter.Bid i a j amount) ls first (let r = bid_route in omega (arith, law.some_shards, r.channel)) (let r = bid_route in omega (arith, law.some_shards, r.shard))
 
     slack_taken : AllLetters (SlackLetter g w.price) taken
     slack_taken = all_gone (SlackLetter g w.price) c inv.slack_letters (To.Object q) x [] (Letter.Bid i a j amount) ls first
@@ -185,9 +185,9 @@ module _ (g : Phase) (w : World) (c : Channels) (law : Lawful g) (inv : Inv g w 
     pub inv_declines : Inv g declining (send taken (g.shards + q) (to_person g.shards i (Letter.Refused i j (w.price j)) ∷ []))
     inv_declines =
         record {
-          routed = routed_sent g taken routed_taken (to_person g.shards i (Letter.Refused i j (w.price j))) (g.shards + q) (bid_route.0, refl, bid_route.2, its_channel, inv.price_range j);
+          routed = routed_sent g taken routed_taken (to_person g.shards i (Letter.Refused i j (w.price j))) (g.shards + q) (record { person = bid_route.person; shard = refl; object = bid_route.object; channel = its_channel; price = inv.price_range j });
           never_falls = rw its_channel (price_is_told g declining declining taken (to_person g.shards i (Letter.Refused i j (w.price j))) (i % g.shards) j refl refl (never_taken declining (price_kept g w declining c refl refl inv.never_falls)));
-          in_place = rw (← bid_route.3, ← bid_route.1) refused_place;
+          in_place = rw (← bid_route.shard, ← bid_route.channel) refused_place;
           price_range = inv.price_range;
           copy_range = inv.copy_range;
           idle_is = inv.idle_is;
@@ -225,7 +225,7 @@ module _ (g : Phase) (w : World) (c : Channels) (law : Lawful g) (inv : Inv g w 
           at k h f e =
               let same = sym (put_at w.holder j (Some (record { person = i; arc = a })) k f) ∙ e in
               let who : i ≡ h.person = ap (λ (o : Option Held). (from_some (record { person = i; arc = a }) o).person) same in
-              rw who at bid_route.0
+              rw who at bid_route.person
 
       prices_rise : (k : ℕ) → w.price k ≤ℤ put w.price j amount k
       prices_rise k = elim (cases_eq k j) [ inl e ↦ rw (put_at w.price j amount k e, e) rises | inr n ↦ (rw (put_off w.price j amount k n) (omega (arith, ints))) ]
@@ -261,7 +261,7 @@ module _ (g : Phase) (w : World) (c : Channels) (law : Lawful g) (inv : Inv g w 
             routed = r;
             never_falls = n;
             in_place = p;
-            price_range = price_put w.price j amount bid_route.4 inv.price_range;
+            price_range = price_put w.price j amount bid_route.price inv.price_range;
             copy_range = inv.copy_range;
             idle_is = inv.idle_is;
             holder_range = holders;
@@ -272,7 +272,7 @@ module _ (g : Phase) (w : World) (c : Channels) (law : Lawful g) (inv : Inv g w 
           }
 
       award_routed : Routed g (To.Person (i % g.shards)) (g.shards + q) (Letter.Award i j amount)
-      award_routed = (bid_route.0, refl, bid_route.2, its_channel, bid_route.4)
+      award_routed = record { person = bid_route.person; shard = refl; object = bid_route.object; channel = its_channel; price = bid_route.price }
 
       -- the object had no holder
       abbrev first_out : Out
@@ -284,10 +284,10 @@ module _ (g : Phase) (w : World) (c : Channels) (law : Lawful g) (inv : Inv g w 
           let d : Channels = send taken (g.shards + q) (award_out ∷ []) in
           rw (send_two taken (g.shards + q) award_out first_out)
           (inv_accepts (award_out ∷ first_out ∷ []) (send d (g.shards + q) (first_out ∷ []))
-          (routed_sent g d (routed_sent g taken routed_taken award_out (g.shards + q) award_routed) first_out (g.shards + q) (bid_route.2, its_channel))
+          (routed_sent g d (routed_sent g taken routed_taken award_out (g.shards + q) award_routed) first_out (g.shards + q) (bid_route.object, its_channel))
           (price_sent g v v d first_out (g.shards + q) (λ k. refl) (award_told (award_out ∷ first_out ∷ []) taken (raised (award_out ∷ first_out ∷ []))))
-          (place_sent g v v d first_out (g.shards + q) (λ k l. (refl, refl)) (rw (← bid_route.3, ← bid_route.1) (placed_first none)))
-          (counts_first g w v c (send d (g.shards + q) (first_out ∷ [])) inv.counts refl refl i a j amount (record { person = i; arc = a }) bid_route.2 refl taken d bid_gone i j j amount none
+          (place_sent g v v d first_out (g.shards + q) (λ k l. (refl, refl)) (rw (← bid_route.shard, ← bid_route.channel) (placed_first none)))
+          (counts_first g w v c (send d (g.shards + q) (first_out ∷ [])) inv.counts refl refl i a j amount (record { person = i; arc = a }) bid_route.object refl taken d bid_gone i j j amount none
           (plus_sent g taken (g.shards + q) award_out its_sender (omega (arith, law.some_shards))) (plus_sent g d (g.shards + q) first_out its_sender tt))
           (all_sent (SlackLetter g (put w.price j amount)) d (all_sent (SlackLetter g (put w.price j amount)) taken slack_risen award_out (g.shards + q) tt) first_out (g.shards + q) tt))
         where
@@ -311,10 +311,10 @@ module _ (g : Phase) (w : World) (c : Channels) (law : Lawful g) (inv : Inv g w 
             let d : Channels = send taken (g.shards + q) (outbid_out ∷ []) in
             rw (send_two taken (g.shards + q) outbid_out award_out)
             (inv_accepts (outbid_out ∷ award_out ∷ []) (send d (g.shards + q) (award_out ∷ []))
-            (routed_sent g d (routed_sent g taken routed_taken outbid_out (g.shards + q) (inv.holder_range j old held, refl, bid_route.2, its_channel, bid_route.4)) award_out (g.shards + q) award_routed)
+            (routed_sent g d (routed_sent g taken routed_taken outbid_out (g.shards + q) (record { person = inv.holder_range j old held; shard = refl; object = bid_route.object; channel = its_channel; price = bid_route.price })) award_out (g.shards + q) award_routed)
             (award_told (outbid_out ∷ award_out ∷ []) d (outbid_told (outbid_out ∷ award_out ∷ [])))
-            (rw (← bid_route.3, ← bid_route.1) placed_pass)
-            (counts_pass g w v c (send d (g.shards + q) (award_out ∷ [])) inv.counts refl refl i a j amount (record { person = i; arc = a }) bid_route.2 refl taken d bid_gone old old.person j i j amount amount held
+            (rw (← bid_route.shard, ← bid_route.channel) placed_pass)
+            (counts_pass g w v c (send d (g.shards + q) (award_out ∷ [])) inv.counts refl refl i a j amount (record { person = i; arc = a }) bid_route.object refl taken d bid_gone old old.person j i j amount amount held
             (plus_sent g taken (g.shards + q) outbid_out its_sender (omega (arith, law.some_shards))) (plus_sent g d (g.shards + q) award_out its_sender (omega (arith, law.some_shards))))
             (all_sent (SlackLetter g (put w.price j amount)) d (all_sent (SlackLetter g (put w.price j amount)) taken slack_risen outbid_out (g.shards + q) tt) award_out (g.shards + q) tt))
 
@@ -347,7 +347,7 @@ module _ (g : Phase) (w : World) (c : Channels) (law : Lawful g) (inv : Inv g w 
       dropped_count : (l : Letter) (t : To) → is_price l ≡ true → c t x ≡ hs ++ l ∷ ls → Counts g w (set_channel c t x (hs ++ ls))
       dropped_count (Letter.Price j p) (To.Person s) k e =
           let r = routed_middle g c inv.routed (To.Person s) x hs (Letter.Price j p) ls e in
-          counts_price_gone g w w c (set_channel c (To.Person s) x (hs ++ ls)) inv.counts refl refl refl j p (plus_gone g c (To.Person s) x hs (Letter.Price j p) ls e (omega (arith, law.some_shards, r.1)) r.3)
+          counts_price_gone g w w c (set_channel c (To.Person s) x (hs ++ ls)) inv.counts refl refl refl j p (plus_gone g c (To.Person s) x hs (Letter.Price j p) ls e (omega (arith, law.some_shards, r.channel)) r.shard)
       dropped_count (Letter.Price j p) (To.Object s) k e = absurd (routed_middle g c inv.routed (To.Object s) x hs (Letter.Price j p) ls e)
       dropped_count (Letter.Price j p) To.Hub k e = absurd (routed_middle g c inv.routed To.Hub x hs (Letter.Price j p) ls e)
       dropped_count (Letter.Award i j p) t k e = absurd cc
@@ -360,7 +360,7 @@ module _ (g : Phase) (w : World) (c : Channels) (law : Lawful g) (inv : Inv g w 
       dropped_price : (l : Letter) (t : To) → is_price l ≡ true → c t x ≡ hs ++ l ∷ ls → NeverFalls (prices g w (set_channel c t x (hs ++ ls)))
       dropped_price (Letter.Price j p) (To.Person s) k e =
           let r = routed_middle g c inv.routed (To.Person s) x hs (Letter.Price j p) ls e in
-          rw r.1 (price_lost g w w c hs (Letter.Price j p) ls s j p refl (rw (← r.1) e) inv.never_falls)
+          rw r.channel (price_lost g w w c hs (Letter.Price j p) ls s j p refl (rw (← r.channel) e) inv.never_falls)
       dropped_price (Letter.Price j p) (To.Object s) k e = absurd (routed_middle g c inv.routed (To.Object s) x hs (Letter.Price j p) ls e)
       dropped_price (Letter.Price j p) To.Hub k e = absurd (routed_middle g c inv.routed To.Hub x hs (Letter.Price j p) ls e)
       dropped_price (Letter.Award i j p) t k e = absurd cc
@@ -372,10 +372,10 @@ module _ (g : Phase) (w : World) (c : Channels) (law : Lawful g) (inv : Inv g w 
 
   -- the first letter for a person shard is one that fits, and its price is no less than the copy
   pub letter_fits : (s x : ℕ) (l : Letter) (ls : List Letter) → c (To.Person s) x ≡ l ∷ ls → FitsLetter g w s l
-  letter_fits s x (Letter.Award i j p) ls e = let r = routed_first g c inv.routed (To.Person s) x (Letter.Award i j p) ls e in (r.0, r.1, r.2, r.4, answer_fits s x (Letter.Award i j p) ls w.persons_mail Award i j p e refl)
-  letter_fits s x (Letter.Refused i j p) ls e = let r = routed_first g c inv.routed (To.Person s) x (Letter.Refused i j p) ls e in (r.0, r.1, r.2, r.4, answer_fits s x (Letter.Refused i j p) ls w.persons_mail Refused i j p e refl)
-  letter_fits s x (Letter.Outbid i j p) ls e = let r = routed_first g c inv.routed (To.Person s) x (Letter.Outbid i j p) ls e in (r.0, r.1, r.2, r.4, answer_fits s x (Letter.Outbid i j p) ls w.persons_mail Outbid i j p e refl)
-  letter_fits s x (Letter.Price j p) ls e = let r = routed_first g c inv.routed (To.Person s) x (Letter.Price j p) ls e in (r.0, r.2)
+  letter_fits s x (Letter.Award i j p) ls e = let r = routed_first g c inv.routed (To.Person s) x (Letter.Award i j p) ls e in record { person = r.person; shard = r.shard; object = r.object; price = r.price; state = answer_fits s x (Letter.Award i j p) ls w.persons_mail Award i j p e refl }
+  letter_fits s x (Letter.Refused i j p) ls e = let r = routed_first g c inv.routed (To.Person s) x (Letter.Refused i j p) ls e in record { person = r.person; shard = r.shard; object = r.object; price = r.price; state = answer_fits s x (Letter.Refused i j p) ls w.persons_mail Refused i j p e refl }
+  letter_fits s x (Letter.Outbid i j p) ls e = let r = routed_first g c inv.routed (To.Person s) x (Letter.Outbid i j p) ls e in record { person = r.person; shard = r.shard; object = r.object; price = r.price; state = answer_fits s x (Letter.Outbid i j p) ls w.persons_mail Outbid i j p e refl }
+  letter_fits s x (Letter.Price j p) ls e = let r = routed_first g c inv.routed (To.Person s) x (Letter.Price j p) ls e in (r.object, r.price)
   letter_fits s x (Letter.Bid i a j p) ls e = routed_first g c inv.routed (To.Person s) x (Letter.Bid i a j p) ls e
   letter_fits s x (Letter.First j) ls e = routed_first g c inv.routed (To.Person s) x (Letter.First j) ls e
   letter_fits s x (Letter.Stop y) ls e = routed_first g c inv.routed (To.Person s) x (Letter.Stop y) ls e
@@ -384,10 +384,10 @@ module _ (g : Phase) (w : World) (c : Channels) (law : Lawful g) (inv : Inv g w 
   same_price i j p q e = ap (λ (z : ℕ × ℤ). z.0) (ap (from_some {X = ℕ × ℤ} (i, p)) e)
 
   price_channel : (s x : ℕ) (l : Letter) (j : ℕ) (p : ℤ) → told_price l ≡ Some (j, p) → Routed g (To.Person s) x l → x ≡ g.shards + j % g.shards
-  price_channel s x (Letter.Award i k q) j p e r = rw (← same_price k j q p e) r.3
-  price_channel s x (Letter.Refused i k q) j p e r = rw (← same_price k j q p e) r.3
-  price_channel s x (Letter.Outbid i k q) j p e r = rw (← same_price k j q p e) r.3
-  price_channel s x (Letter.Price k q) j p e r = rw (← same_price k j q p e) r.1
+  price_channel s x (Letter.Award i k q) j p e r = rw (← same_price k j q p e) r.channel
+  price_channel s x (Letter.Refused i k q) j p e r = rw (← same_price k j q p e) r.channel
+  price_channel s x (Letter.Outbid i k q) j p e r = rw (← same_price k j q p e) r.channel
+  price_channel s x (Letter.Price k q) j p e r = rw (← same_price k j q p e) r.channel
   price_channel s x (Letter.Bid i a k q) j p e r = absurd r
   price_channel s x (Letter.First k) j p e r = absurd r
   price_channel s x (Letter.Stop y) j p e r = absurd r
@@ -398,7 +398,7 @@ module _ (g : Phase) (w : World) (c : Channels) (law : Lawful g) (inv : Inv g w 
 
   -- the first letter for an object shard is a bid that fits
   pub bid_letter_fits : (q x : ℕ) (l : Letter) (ls : List Letter) → c (To.Object q) x ≡ l ∷ ls → FitsBid g q l
-  bid_letter_fits q x (Letter.Bid i a j p) ls e = let r = routed_first g c inv.routed (To.Object q) x (Letter.Bid i a j p) ls e in (r.2, r.3, r.4)
+  bid_letter_fits q x (Letter.Bid i a j p) ls e = let r = routed_first g c inv.routed (To.Object q) x (Letter.Bid i a j p) ls e in record { object = r.object; shard = r.shard; price = r.price }
   bid_letter_fits q x (Letter.Award i j p) ls e = routed_first g c inv.routed (To.Object q) x (Letter.Award i j p) ls e
   bid_letter_fits q x (Letter.Refused i j p) ls e = routed_first g c inv.routed (To.Object q) x (Letter.Refused i j p) ls e
   bid_letter_fits q x (Letter.Outbid i j p) ls e = routed_first g c inv.routed (To.Object q) x (Letter.Outbid i j p) ls e

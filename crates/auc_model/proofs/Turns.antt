@@ -9,17 +9,16 @@ use Rattle.auc_letters.specs.declared.letter.Why.{Why}
 use Rattle.auc_graph.specs.declared.limits.TheConstants.{MOST_PRICE}
 use Rattle.auc_letters.specs.declared.out.Out.{Out}
 use Rattle.auc_letters.specs.declared.out.To.{To}
-use Rattle.auc_letters.specs.declared.state.PersonState.{PersonState}
 use Rattle.auc_letters.specs.Award.{bid_of, bid_out}
 use Rattle.auc_model.specs.Bidding.{Bids, Stops, after_bid, after_stop}
 use Rattle.auc_model.specs.SlackBids.{SlackLetter}
 use Rattle.auc_model.specs.Invariants.{Inv}
 use Rattle.auc_model.specs.Put.{put}
-use Rattle.auc_model.specs.Start.{Lawful}
+use Rattle.auc_model.specs.Start.{Lawful, occurs}
 use Rattle.auc_model.specs.Channels.{Lost, Routed, Channels, prices, send, channels}
 use Rattle.auc_model.specs.World.{Phase, World, scale}
 use Rattle.auc_model.proofs.CountSteps.{counts_bid, counts_price, counts_stop, plus_sent}
-use Rattle.auc_model.proofs.Idle.{bid_facts, idle_bid}
+use Rattle.auc_model.proofs.Idle.{IsIdle, bid_facts, idle_bid}
 use Rattle.auc_model.proofs.PlaceSteps.{place_bid, place_kept, place_sent}
 use Rattle.auc_model.proofs.PriceSteps.{price_is_told, price_kept, price_sent}
 use Rattle.auc_model.proofs.Prices.{copy_low}
@@ -62,23 +61,23 @@ module _ (g : Phase) (w : World) (c : Channels) (law : Lawful g) (inv : Inv g w 
     abbrev pub sent : Out
     sent = bid_out g.shards (bid_of i a.arc a.object amount)
 
-    bidder : (w.state i ≡ PersonState.Free) × (i % g.shards ≡ s) × (i < g.persons)
-    bidder = let f = bid_facts g w.state w.idle inv.idle_is s i a.object rest first in (f.0, f.1, f.2)
+    bidder : IsIdle g (w.state i) s i (occurs i rest)
+    bidder = bid_facts g w.state w.idle inv.idle_is s i a.object rest first
 
     here : s < g.shards
-    here = let h = bidder.1 in omega (arith, law.some_shards, h)
+    here = let h = bidder.shard in omega (arith, law.some_shards, h)
 
     pub inv_bids : Inv g bidding (send c s (sent ∷ []))
     inv_bids =
         record {
-          routed = routed_sent g c inv.routed sent s (bidder.2, bidder.1, rw best.best.listed.2 at (law.arcs_in_range i best.best.listed.0 a best.best.listed.1), refl, (record { low = amount_above g (w.copy s) (g.row i) a amount law (inv.copy_range s a.object) best; high = low }));
+          routed = routed_sent g c inv.routed sent s (record { person = bidder.known; channel = bidder.shard; object = rw best.best.listed.2 at (law.arcs_in_range i best.best.listed.0 a best.best.listed.1); shard = refl; price = record { low = amount_above g (w.copy s) (g.row i) a amount law (inv.copy_range s a.object) best; high = low } });
           never_falls = price_kept g w bidding (send c s (sent ∷ [])) refl refl (price_sent g w w c sent s (λ j. refl) inv.never_falls);
-          in_place = rw (← bidder.1) (place_bid g w bidding c i a.arc a.object amount 0 bidder.0 refl refl inv.in_place);
+          in_place = rw (← bidder.shard) (place_bid g w bidding c i a.arc a.object amount 0 bidder.free refl refl inv.in_place);
           price_range = inv.price_range;
           copy_range = inv.copy_range;
           idle_is = idle_bid g w.state w.idle inv.idle_is s i a.object rest first;
           holder_range = inv.holder_range;
-          counts = counts_bid g w bidding c (send c s (sent ∷ [])) inv.counts refl refl i a.arc a.object amount bidder.2 bidder.0 refl (plus_sent g c s sent (let h = here in omega arith) (omega (arith, law.some_shards)));
+          counts = counts_bid g w bidding c (send c s (sent ∷ [])) inv.counts refl refl i a.arc a.object amount bidder.known bidder.free refl (plus_sent g c s sent (let h = here in omega arith) (omega (arith, law.some_shards)));
           slack_letters = all_sent (SlackLetter g w.price) c inv.slack_letters sent s (slack_bid g (w.copy s) w.price i a amount law (λ k. copy_low (prices g w c) s k inv.never_falls) best);
           slack_holders = inv.slack_holders;
           sound = inv.sound;
@@ -94,7 +93,7 @@ module _ (g : Phase) (w : World) (c : Channels) (law : Lawful g) (inv : Inv g w 
 
     routed_stop : (y : Why) → Stops g w s i y → Routed g To.Hub s (Letter.Stop y)
     routed_stop Why.Bids h = here
-    routed_stop Why.Stuck h = (here, (i, (bid_facts g w.state w.idle inv.idle_is s i 0 rest first).2, h.1))
+    routed_stop Why.Stuck h = (here, record { person = i; known = (bid_facts g w.state w.idle inv.idle_is s i 0 rest first).known; no_arc = h.1 })
     routed_stop Why.Ceiling h = here
     routed_stop Why.Posts h = h
     routed_stop Why.Trail h = h
@@ -129,7 +128,7 @@ module _ (g : Phase) (w : World) (c : Channels) (law : Lawful g) (inv : Inv g w 
     pub inv_tells : Inv g telling (send c (g.shards + q) (tell_out ∷ []))
     inv_tells =
         record {
-          routed = routed_sent g c inv.routed tell_out (g.shards + q) (known, ap (λ (n : ℕ). g.shards + n) (sym its), inv.price_range j, there);
+          routed = routed_sent g c inv.routed tell_out (g.shards + q) (record { object = known; channel = ap (λ (n : ℕ). g.shards + n) (sym its); price = inv.price_range j; shard = there });
           never_falls = rw (← its) (price_kept g w (record w { object_out = put w.object_out (j % g.shards) (tell_out ∷ []) }) (send c (g.shards + j % g.shards) (tell_out ∷ [])) refl refl (price_is_told g w w c tell_out s j refl refl inv.never_falls));
           in_place = place_kept g w telling (send c (g.shards + q) (tell_out ∷ [])) refl refl (place_sent g w w c tell_out (g.shards + q) (λ j k. (refl, refl)) inv.in_place);
           price_range = inv.price_range;

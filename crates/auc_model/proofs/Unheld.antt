@@ -125,6 +125,6 @@ module _ (g : Phase) (w : World) where
 pub unheld_schedule : (g : Phase) (w : World) (ts : List Turn) (v : World) → Schedule g w ts v → StaysUnheld w v
 unheld_schedule g w [] v e j none = (sym (ap (λ (x : World). x.holder j) e) ∙ none, ap (λ (x : World). x.price j) e)
 unheld_schedule g w (t ∷ ts) v run j none =
-    let later = unheld_schedule g run.0 ts v run.3 j none in
-    let first = unheld_turn g w t run.1 run.0 run.2 j later.0 in
+    let later = unheld_schedule g run.mid ts v run.rest j none in
+    let first = unheld_turn g w t run.reply run.mid run.turned j later.0 in
     (first.0, later.1 ∙ first.1)

@@ -22,10 +22,10 @@ weight_le m f h e = sum_by_le (λ (l : Lane Letter). sum_by f l.waiting) (λ (l 
 -- one letter more in the mail
 pub weight_posted : (m n : Mail Letter) (s b r k : ℕ) (x : Letter) (f : Letter → ℕ) → IsWhole m → Step m (Call.Post s b x r) (Reply.Posted k) n → weight f n ≡ weight f m + f x
 weight_posted m n s b r k x f whole p =
-    let a = weight-set m b s (lane_behind (lane_of m b s) x) whole p.0 f in
+    let a = weight-set m b s (lane_behind (lane_of m b s) x) whole p.lane f in
     let d = sum_by_push f (lane_of m b s).waiting x in
-    let u = ap (λ (xs : List Letter). sum_by f xs) (waiting_there m b s p.0.0) in
-    let e = ap (λ (z : Mail Letter). weight f z) p.5 in
+    let u = ap (λ (xs : List Letter). sum_by f xs) (waiting_there m b s p.lane.0) in
+    let e = ap (λ (z : Mail Letter). weight f z) p.next in
     omega (arith, a, d, u, e)
 
 -- A letter more makes a mail of any shape heavier by no more than itself: where its lane isn't there, the mail stays as
@@ -40,7 +40,7 @@ weight_posted_le m n s b r k x f p = elim (cases_lt at (length m.lanes)) [ inl h
     longer = lane_behind (lane_of m b s) x
 
     after : weight f n ≡ weight f (with_lane m b s longer)
-    after = ap (λ (z : Mail Letter). weight f z) p.5
+    after = ap (λ (z : Mail Letter). weight f z) p.next
 
     there : at < length m.lanes → weight f n ≤ weight f m + f x
     there h =
@@ -64,14 +64,14 @@ weight_taken m n b s k x f t = elim (cases_lt at (length m.lanes)) [ inl h ↦ t
 
     there : at < length m.lanes → weight f n + f x ≡ weight f m
     there h =
-        let a = sum_by-set (λ (l : Lane Letter). sum_by f l.waiting) m.lanes at (record { taken = k; waiting = t.3.0 }) blank_lane h in
-        let c = ap (λ (xs : List Letter). sum_by f xs) t.3.1 in
-        let d = sum_by-cons f x t.3.0 in
-        let e = ap (λ (z : Mail Letter). weight f z) t.3.2 in
+        let a = sum_by-set (λ (l : Lane Letter). sum_by f l.waiting) m.lanes at (record { taken = k; waiting = t.rest }) blank_lane h in
+        let c = ap (λ (xs : List Letter). sum_by f xs) t.first in
+        let d = sum_by-cons f x t.rest in
+        let e = ap (λ (z : Mail Letter). weight f z) t.next in
         omega (arith, a, c, d, e)
 
     past : length m.lanes ≤ at → weight f n + f x ≡ weight f m
-    past h = let e : [] ≡ x ∷ t.3.0 = sym (ap (λ (l : Lane Letter). l.waiting) (get_or_past m.lanes at blank_lane h)) ∙ t.3.1 in absurd cc
+    past h = let e : [] ≡ x ∷ t.rest = sym (ap (λ (l : Lane Letter). l.waiting) (get_or_past m.lanes at blank_lane h)) ∙ t.first in absurd cc
 
 one_at_most : (l : Letter) → price_one l ≤ 1
 one_at_most (Letter.Price j p) = omega arith
@@ -102,5 +102,5 @@ few_prices_posted m n s b r i k x whole p nodes reserve few = by (is_price x) re
         let u = one_at_most x in
         let o = weight_ones m in
         let rr : r ≡ 2 * k = reserve ∙ rw e in
-        omega (arith, a, d, u, o, rr, p.3, nodes)
+        omega (arith, a, d, u, o, rr, p.free, nodes)
     by false e = let a = weight_posted m n s b r i x price_one whole p in let u = price_is x e in omega (arith, a, u, few)

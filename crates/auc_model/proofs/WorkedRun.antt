@@ -98,45 +98,56 @@ bids : Turned small beginning (Turn.Bid 0) TurnReply.Moved has_bid
 bids = BidTurn.bids 0 [] one_arc (pos 1) (record { known = omega arith; empty = refl; going = refl; first = refl }) (λ e. omega (arith, e)) bid_is (omega (arith, ints)) refl refl
 
 posts : Turned small has_bid (Turn.PersonPost 0) TurnReply.Moved has_posted
-posts = PostTurn.posts (bid_out small.shards (bid_of 0 one_arc.arc one_arc.object (pos 1))) [] 1 objects (record { known = omega arith; first = refl }) ((omega arith, omega arith), refl, omega arith, omega arith, refl, refl) refl refl
+posts = PostTurn.posts (bid_out small.shards (bid_of 0 one_arc.arc one_arc.object (pos 1))) [] 1 objects (record { known = omega arith; first = refl }) (record { lane = (omega arith, omega arith); accepts = refl; left = omega arith; free = omega arith; number = refl; next = refl }) refl refl
 
 sells : Turned small has_posted (Turn.ObjectTake 0) TurnReply.Moved has_sold
-sells = ObjectTakeTurn.answers_bid 0 1 (bid_of 0 0 0 (pos 1)) (taken objects 0) (omega arith) refl (omega arith, omega arith, refl, ([], refl, refl)) (omega arith, refl, is_price) refl refl
+sells = ObjectTakeTurn.answers_bid 0 1 (bid_of 0 0 0 (pos 1)) (taken objects 0) (omega arith) refl (record { box = omega arith; sender = omega arith; number = refl; rest = []; first = refl; next = refl }) (record { object = omega arith; shard = refl; price = is_price }) refl refl
 
 awards_him : Turned small has_sold (Turn.ObjectPost 0) TurnReply.Moved has_awarded
-awards_him = PostTurn.posts (to_person 1 0 award) (to_hub (Letter.First 0) ∷ []) 1 persons (record { known = omega arith; first = refl }) ((omega arith, omega arith), refl, omega arith, omega arith, refl, refl) refl refl
+awards_him = PostTurn.posts (to_person 1 0 award) (to_hub (Letter.First 0) ∷ []) 1 persons (record { known = omega arith; first = refl }) (record { lane = (omega arith, omega arith); accepts = refl; left = omega arith; free = omega arith; number = refl; next = refl }) refl refl
 
 tells_hub : Turned small has_awarded (Turn.ObjectPost 0) TurnReply.Moved has_counted
-tells_hub = PostTurn.posts (to_hub (Letter.First 0)) [] 1 hub (record { known = omega arith; first = refl }) ((omega arith, omega arith), refl, omega arith, omega arith, refl, refl) refl refl
+tells_hub = PostTurn.posts (to_hub (Letter.First 0)) [] 1 hub (record { known = omega arith; first = refl }) (record { lane = (omega arith, omega arith); accepts = refl; left = omega arith; free = omega arith; number = refl; next = refl }) refl refl
 
 hears : Turned small has_counted (Turn.PersonTake 0) TurnReply.Moved has_heard
-hears = PersonTakeTurn.hears 1 1 award (taken persons 1) (omega arith) (omega arith, omega arith, refl, ([], refl, refl)) (omega arith, refl, omega arith, is_price, refl) (omega (arith, ints)) refl refl
+hears = PersonTakeTurn.hears 1 1 award (taken persons 1) (omega arith) (record { box = omega arith; sender = omega arith; number = refl; rest = []; first = refl; next = refl }) (record { person = omega arith; shard = refl; object = omega arith; price = is_price; state = refl }) (omega (arith, ints)) refl refl
 
 ends : Turned small has_heard Turn.HubTake TurnReply.Moved finished
-ends = HubTakeTurn.takes 1 1 (Letter.First 0) (taken hub 1) (omega arith, omega arith, refl, ([], refl, refl)) refl refl
+ends = HubTakeTurn.takes 1 1 (Letter.First 0) (taken hub 1) (record { box = omega arith; sender = omega arith; number = refl; rest = []; first = refl; next = refl }) refl refl
 
 pub run : Schedule small beginning turns finished
-run = (
-  has_bid,
-  TurnReply.Moved,
-  bids,
-  (
-    has_posted,
-    TurnReply.Moved,
-    posts,
-    (
-      has_sold,
-      TurnReply.Moved,
-      sells,
-      (
-        has_awarded,
-        TurnReply.Moved,
-        awards_him,
-        (has_counted, TurnReply.Moved, tells_hub, (has_heard, TurnReply.Moved, hears, (finished, TurnReply.Moved, ends, refl))),
-      ),
-    ),
-  ),
-)
+run =
+    record {
+      mid = has_bid;
+      reply = TurnReply.Moved;
+      turned = bids;
+      rest = record {
+        mid = has_posted;
+        reply = TurnReply.Moved;
+        turned = posts;
+        rest = record {
+          mid = has_sold;
+          reply = TurnReply.Moved;
+          turned = sells;
+          rest = record {
+            mid = has_awarded;
+            reply = TurnReply.Moved;
+            turned = awards_him;
+            rest = record {
+              mid = has_counted;
+              reply = TurnReply.Moved;
+              turned = tells_hub;
+              rest = record {
+                mid = has_heard;
+                reply = TurnReply.Moved;
+                turned = hears;
+                rest = record { mid = finished; reply = TurnReply.Moved; turned = ends; rest = refl };
+              };
+            };
+          };
+        };
+      };
+    }
 
 pub ended_all : finished.end ≡ Some End.All
 ended_all = refl

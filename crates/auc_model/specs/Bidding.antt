@@ -4,7 +4,6 @@ use Rattle.auc_graph.specs.declared.rows.RowArc.{RowArc}
 use Rattle.auc_graph.specs.Bid.{IsBid}
 use Rattle.auc_letters.specs.declared.letter.Letter.{Letter}
 use Rattle.auc_letters.specs.declared.letter.Why.{Why}
-use Rattle.auc_letters.specs.declared.out.Out.{Out}
 use Rattle.auc_letters.specs.declared.state.PersonState.{PersonState}
 use Rattle.auc_letters.specs.Award.{bid_of, bid_out}
 use Rattle.auc_letters.specs.Routing.{to_hub}
@@ -16,11 +15,19 @@ use Rattle.auc_model.specs.World.{Phase, World, scale}
 abbrev pub Bids : Phase → World → ℕ → ℕ → RowArc → ℤ → Type 0
 Bids g w s i arc amount = IsBid (scale g) g.spread g.eps (w.copy s) (g.row i) arc amount
 
+-- bids are left, and the bid of person i would be above the greatest price
+pub record BidsTooHigh (g : Phase) (w : World) (s i : ℕ) : Type 0 where
+  pub left : w.bids_left s ≢ 0
+  pub arc : RowArc
+  pub amount : ℤ
+  pub bid : Bids g w s i arc amount
+  pub above : pos (2 ^ 61) <ℤ amount
+
 -- why person i can't bid, in this order: no bid is left, the row is empty, the bid would be above the greatest price
 abbrev pub Stops : Phase → World → ℕ → ℕ → Why → Type 0
 Stops g w s i Why.Bids = w.bids_left s ≡ 0
 Stops g w s i Why.Stuck = (w.bids_left s ≢ 0) × (g.row i ≡ [])
-Stops g w s i Why.Ceiling = (w.bids_left s ≢ 0) × ((arc : RowArc) × (amount : ℤ) × Bids g w s i arc amount × (pos (2 ^ 61) <ℤ amount))
+Stops g w s i Why.Ceiling = BidsTooHigh g w s i
 Stops g w s i Why.Posts = ⊥
 Stops g w s i Why.Trail = ⊥
 Stops g w s i Why.Mail = ⊥
@@ -28,8 +35,10 @@ Stops g w s i Why.Fell = ⊥
 Stops g w s i Why.Stray = ⊥
 
 -- a person has no arc
-abbrev pub SomeoneStuck : Phase → Type 0
-SomeoneStuck g = (i : ℕ) × (i < g.persons) × (g.row i ≡ [])
+pub record SomeoneStuck (g : Phase) : Type 0 where
+  pub person : ℕ
+  pub known : person < g.persons
+  pub no_arc : g.row person ≡ []
 
 -- the world after the shard s has made a Stop
 abbrev pub after_stop : World → ℕ → Why → World

@@ -96,20 +96,40 @@ places g w c = record { state = w.state; holder = λ j. person_of (w.holder j); 
 abbrev pub prices : Phase → World → Channels → Prices
 prices g w c = record { price = w.price; copy = w.copy; news = news_in g c }
 
+-- an answer to person i about j, with the price p, may be on the channel from the sender x to the shard s
+pub record ToPerson (g : Phase) (s x i j : ℕ) (p : ℤ) : Type 0 where
+  pub person : i < g.persons
+  pub shard : i % g.shards ≡ s
+  pub object : j < g.objects
+  pub channel : x ≡ g.shards + j % g.shards
+  pub price : IsPrice p
+
+-- the price p of j may be on the channel from the sender x to the shard s of the persons
+pub record PriceToPersons (g : Phase) (s x j : ℕ) (p : ℤ) : Type 0 where
+  pub object : j < g.objects
+  pub channel : x ≡ g.shards + j % g.shards
+  pub price : IsPrice p
+  pub shard : s < g.shards
+
+-- a bid of person i on j, with the amount p, may be on the channel from the sender x to the shard q
+pub record ToObject (g : Phase) (q x i j : ℕ) (p : ℤ) : Type 0 where
+  pub person : i < g.persons
+  pub channel : i % g.shards ≡ x
+  pub object : j < g.objects
+  pub shard : j % g.shards ≡ q
+  pub price : IsPrice p
+
 -- Each letter is on the right channel, and its numbers are in range. A Stop for want of an arc is sent only if some
 -- person has none.
-abbrev pub ToPerson : Phase → ℕ → ℕ → ℕ → ℕ → ℤ → Type 0
-ToPerson g s x i j p = (i < g.persons) × (i % g.shards ≡ s) × (j < g.objects) × (x ≡ g.shards + j % g.shards) × IsPrice p
-
 abbrev pub Routed : Phase → To → ℕ → Letter → Type 0
 Routed g (To.Person s) x (Letter.Award i j p) = ToPerson g s x i j p
 Routed g (To.Person s) x (Letter.Refused i j p) = ToPerson g s x i j p
 Routed g (To.Person s) x (Letter.Outbid i j p) = ToPerson g s x i j p
-Routed g (To.Person s) x (Letter.Price j p) = (j < g.objects) × (x ≡ g.shards + j % g.shards) × IsPrice p × (s < g.shards)
+Routed g (To.Person s) x (Letter.Price j p) = PriceToPersons g s x j p
 Routed g (To.Person s) x (Letter.Bid i a j p) = ⊥
 Routed g (To.Person s) x (Letter.First j) = ⊥
 Routed g (To.Person s) x (Letter.Stop y) = ⊥
-Routed g (To.Object q) x (Letter.Bid i a j p) = (i < g.persons) × (i % g.shards ≡ x) × (j < g.objects) × (j % g.shards ≡ q) × IsPrice p
+Routed g (To.Object q) x (Letter.Bid i a j p) = ToObject g q x i j p
 Routed g (To.Object q) x (Letter.Award i j p) = ⊥
 Routed g (To.Object q) x (Letter.Refused i j p) = ⊥
 Routed g (To.Object q) x (Letter.Outbid i j p) = ⊥

@@ -11,8 +11,12 @@ use Rattle.auc_model.specs.World.{Phase, World, ended}
 use Rattle.auc_model.specs.Mails.{Takes, TakesNone}
 
 -- an answer to a person about an object fits: numbers are in range, and the person is in the state wanted
-abbrev pub FitsAnswer : Phase → World → ℕ → ℕ → ℕ → ℤ → PersonState → Type 0
-FitsAnswer g w s i j p wanted = (i < g.persons) × (i % g.shards ≡ s) × (j < g.objects) × IsPrice p × (w.state i ≡ wanted)
+pub record FitsAnswer (g : Phase) (w : World) (s i j : ℕ) (p : ℤ) (wanted : PersonState) : Type 0 where
+  pub person : i < g.persons
+  pub shard : i % g.shards ≡ s
+  pub object : j < g.objects
+  pub price : IsPrice p
+  pub state : w.state i ≡ wanted
 
 -- the letter fits the shard s of the persons
 abbrev pub FitsLetter : Phase → World → ℕ → Letter → Type 0

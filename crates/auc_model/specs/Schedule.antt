@@ -1,5 +1,6 @@
 -- The turns of the world (its transitions), and schedules of turns.
 use Rattle.std.specs.Prelude.{ℕ, ◌≡◌, ◌≢◌, ◌⊎◌, List, [], ◌∷◌}
+use Rattle.auc_mail.specs.Mail.{Mail}
 use Rattle.auc_mail.specs.Step.{Step, AreOfTwoSenders}
 use Rattle.auc_mail.specs.declared.call.Call.{Call}
 use Rattle.auc_mail.specs.declared.call.Reply.{Reply}
@@ -27,15 +28,28 @@ Turned g w (Turn.Tell q j s) r v = TellTurn g w q j s r v
 Turned g w Turn.HubTake r v = HubTakeTurn g w r v
 Turned g w (Turn.HubClose name at) r v = HubCloseTurn w name at r v
 
+-- the turn t, with this reply, leads from w to mid, of which Rest is true
+pub record BeginsByTurn (g : Phase) (w : World) (t : Turn) (Rest : World → Type 0) : Type 0 where
+  pub mid : World
+  pub reply : TurnReply
+  pub turned : Turned g w t reply mid
+  pub rest : Rest mid
+
 -- the turns, one after another and with any returns, lead from w to v
 abbrev pub Schedule : Phase → World → List Turn → World → Type 0
 Schedule g w [] v = v ≡ w
-Schedule g w (t ∷ ts) v = (m : World) × (r : TurnReply) × Turned g w t r m × Schedule g m ts v
+Schedule g w (t ∷ ts) v = BeginsByTurn g w t (λ mid. Schedule g mid ts v)
+
+-- some call of the mail leads from old to new
+pub record StepsByCall (old new : Mail Letter) : Type 0 where
+  pub call : Call Letter
+  pub reply : Reply Letter
+  pub step : Step old call reply new
 
 -- only the mail of this name may have made a step
 pub record StepsIn (w v : World) (name : MailName) : Type 0 where
   pub this : (mail_named v name ≡ mail_named w name)
-      ⊎ ((c : Call Letter) × (r : Reply Letter) × Step (mail_named w name) c r (mail_named v name))
+      ⊎ StepsByCall (mail_named w name) (mail_named v name)
   pub others : (other : MailName) → other ≢ name → mail_named v other ≡ mail_named w other
 
 -- Two worlds after w differ only by the sender of a letter: the same call of a mail took letters of two senders.

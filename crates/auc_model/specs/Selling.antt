@@ -1,5 +1,5 @@
 -- ObjectTake and Tell: a shard of the objects answers a bid, or sends a price.
-use Rattle.std.specs.Prelude.{ℕ, ◌%◌, ◌<◌, ◌≤◌, ◌≡◌, ◌≢◌, ◌⊎◌, [], ◌∷◌}
+use Rattle.std.specs.Prelude.{ℕ, ◌%◌, ◌<◌, ◌≤◌, ◌≡◌, ◌≢◌, ◌⊎◌, ℤ, [], ◌∷◌}
 use Rattle.auc_mail.specs.Mail.{Mail}
 use Rattle.auc_letters.specs.declared.letter.Letter.{Letter}
 use Rattle.auc_letters.specs.declared.letter.Bid.{Bid}
@@ -12,9 +12,15 @@ use Rattle.auc_model.specs.Put.{put}
 use Rattle.auc_model.specs.World.{Phase, World, ended}
 use Rattle.auc_model.specs.Mails.{Takes, TakesNone}
 
+-- j is an object of the shard q, and the amount is in the range of prices
+pub record FitsShard (g : Phase) (q j : ℕ) (amount : ℤ) : Type 0 where
+  pub object : j < g.objects
+  pub shard : j % g.shards ≡ q
+  pub price : IsPrice amount
+
 -- the letter is a bid on an object of the shard q
 abbrev pub FitsBid : Phase → ℕ → Letter → Type 0
-FitsBid g q (Letter.Bid i a j amount) = (j < g.objects) × (j % g.shards ≡ q) × IsPrice amount
+FitsBid g q (Letter.Bid i a j amount) = FitsShard g q j amount
 FitsBid g q (Letter.Award i j p) = ⊥
 FitsBid g q (Letter.Refused i j p) = ⊥
 FitsBid g q (Letter.Outbid i j p) = ⊥

@@ -35,3 +35,11 @@ AllLetters P c = (t : To) (x : ℕ) → Each P (c t x)
 -- each holder's arc satisfies epsilon-complementary slackness at the true prices
 abbrev pub SlackHolders : Phase → World → Type 0
 SlackHolders g w = (j : ℕ) (h : Held) → w.holder j ≡ Some h → SlackAt g w.price h.person h.arc j (w.price j)
+
+-- h has an arc to j, which is in its person's row and satisfies epsilon-complementary slackness at the prices p
+pub record HasSlackArc (g : Phase) (p : ℕ → ℤ) (h : Held) (j : ℕ) : Type 0 where
+  pub arc : RowArc
+  pub listed : Contains (g.row h.person) arc
+  pub leads : arc.object ≡ j
+  pub place : arc.arc ≡ h.arc
+  pub slack : SlackRight g p h.person arc

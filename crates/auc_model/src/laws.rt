@@ -3,7 +3,6 @@
 
 ghost use Rattle.std.specs.Prelude.{ℕ, ℤ, pos, ◌<◌, ◌≤◌, ◌≤ℤ◌, ◌≡◌, ◌≢◌, ◌⊎◌, true, List, [], ◌∷◌, ◌++◌, Some, None};
 ghost use Rattle.std.specs.Prelude.{Contains, All, length, map};
-ghost use Rattle.auc_graph.specs.declared.rows.RowArc.{RowArc};
 ghost use Rattle.auc_graph.specs.declared.arc.Arc.{Arc};
 ghost use Rattle.auc_graph.specs.Assignment.{IsAssignment, IsLeast, object_of};
 ghost use Rattle.auc_graph.specs.Dual.{IsNoPriceLeft, IsSlackRight, scale_of};
@@ -30,9 +29,9 @@ ghost use Rattle.auc_model.specs.Selling.{FitsBid};
 ghost use Rattle.auc_model.specs.Hub.{IsForHub};
 ghost use Rattle.auc_model.specs.Schedule.{Turned, Schedule, Reached, StepsIn, TakesOfTwoSenders};
 ghost use Rattle.auc_model.specs.Start.{Lawful, Starts, UsualNodes, occurs, free_in};
-ghost use Rattle.auc_model.specs.Slack.{SlackRight};
+ghost use Rattle.auc_model.specs.SlackBids.{HasSlackArc};
 ghost use Rattle.auc_model.specs.Still.{IsStill, Rests};
-ghost use Rattle.auc_model.specs.Chosen.{ArePricesOf, IsHeldArc};
+ghost use Rattle.auc_model.specs.Chosen.{ArePricesOf, HoldersAreAssigned, HoldsAnObject, IsHeldArc};
 ghost use Rattle.auc_model.specs.Counts.{held_objects};
 ghost use Rattle.auc_model.specs.Invariants.{Kept};
 ghost use Rattle.auc_model.specs.Room.{Room};
@@ -119,12 +118,12 @@ pub fn every_schedule()
     ensures copies_low { (g : Phase) (v : World) → Reached g v → (s j : ℕ) → v.copy s j ≤ℤ v.price j }
     ensures held_once { (g : Phase) (v : World) → Reached g v → (j k : ℕ) (a b : Held) → v.holder j ≡ Some a
         → v.holder k ≡ Some b → a.person ≡ b.person → j ≡ k }
-    ensures slack { (g : Phase) (v : World) → Reached g v → (j : ℕ) (h : Held) → v.holder j ≡ Some h → (a : RowArc)
-        × Contains (g.row h.person) a × (a.object ≡ j) × (a.arc ≡ h.arc) × SlackRight g v.price h.person a }
+    ensures slack { (g : Phase) (v : World) → Reached g v → (j : ℕ) (h : Held) → v.holder j ≡ Some h
+        → HasSlackArc g v.price h j }
     ensures counted { (g : Phase) (v : World) → Reached g v → v.count ≤ g.persons }
     ensures held { (g : Phase) (v : World) → Reached g v → held_objects g v ≤ g.persons }
-    ensures everyone { (g : Phase) (v : World) → Reached g v → v.count ≡ g.persons → (i : ℕ) → i < g.persons → (j : ℕ)
-        × (h : Held) × (v.holder j ≡ Some h) × (h.person ≡ i) }
+    ensures everyone { (g : Phase) (v : World) → Reached g v → v.count ≡ g.persons → (i : ℕ) → i < g.persons
+        → HoldsAnObject v i }
 {}
 
 /// In a phase of a problem, in every reached world: where the hub has counted as many as there are persons, the
@@ -133,8 +132,7 @@ pub fn every_schedule()
 /// object that it leaves has price 0.
 pub fn counted_holders_are_assigned()
     ensures assigned { (p : Problem) (t : Table) (shards : ℕ) (eps : ℤ) (v : World) → IsTableOf p t
-        → Reached (phase_of t shards eps) v → v.count ≡ length t.rows → (choice : List Arc) × IsAssignment p choice
-        × All (IsHeldArc p v) choice }
+        → Reached (phase_of t shards eps) v → v.count ≡ length t.rows → HoldersAreAssigned p v }
     ensures left { (p : Problem) (t : Table) (shards : ℕ) (eps : ℤ) (v : World) (choice : List Arc) → IsTableOf p t
         → Reached (phase_of t shards eps) v → IsAssignment p choice → All (IsHeldArc p v) choice → (j : ℕ)
         → ¬ Contains (map object_of choice) j → v.holder j ≡ None }

@@ -20,7 +20,7 @@ use Rattle.auc_answers.proofs.Replicated.{replicate_default}
 use Rattle.auc_answers.specs.declared.answer.Answer.{Answer}
 use Rattle.auc_answers.specs.declared.gathered.Gathered.{Gathered}
 use Rattle.auc_phases.specs.declared.limits.Limits.{Limits}
-use Rattle.auc_answers.specs.Answers.{HasAssignment, IsAnswer, IsBracketAnswer, IsCertified, IsOptimalAnswer, why_of}
+use Rattle.auc_answers.specs.Answers.{HasAssignment, IsAnswer, IsBracketAnswer, IsOptimalAnswer, why_of}
 use Rattle.auc_phases.specs.Begins.{Begins}
 use Rattle.auc_answers.specs.Claims.{ArePlaceable, BoundFits, HasNoPriceUnheld, HoldsAt, IsChoiceOf, NobodyHoldsTwo, claim_of, holder_at}
 use Rattle.auc_phases.specs.Eps.{first_eps, next_eps}
@@ -45,6 +45,7 @@ use Rattle.auc_hall.proofs.ProblemLaws.{length-rows, row_is, stands_for}
 use Rattle.auc_graph.specs.Row.{row}
 use Rattle.auc_graph.specs.declared.rows.RowArc.{RowArc}
 use Rattle.auc_claim.specs.declared.reason.Reason.{Reason}
+use Rattle.auc_machine.specs.Certified.{HasCertified}
 use Rattle.auc_machine.proofs.Bridge.{counted_are_certified}
 use Rattle.auc_claim.specs.Claim.{pick_of}
 use Rattle.std.specs.List.{slice_get}
@@ -58,7 +59,7 @@ IsReady t limits start (r ∷ rest) eps prices = Follows t r eps prices × Chain
 
 pub chain_more : (t : Table) (limits : Limits) (start : Option (List ℤ)) (done : List Stage) (s : Stage) → IsReady t limits start done s.eps s.prices → IsPlayed t limits s → Chain t limits start (s ∷ done)
 chain_more t limits start [] s ready is = (is, ready)
-chain_more t limits start (r ∷ rest) s ready is = (is, ready.0, ready.1)
+chain_more t limits start (r ∷ rest) s ready is = record { played = is; follows = ready.0; before = ready.1 }
 
 pub ready_next : (t : Table) (limits : Limits) (start : Option (List ℤ)) (done : List Stage) (s : Stage) (next : ℤ) (gathered : Gathered) → IsReady t limits start done s.eps s.prices → Leaves t limits s gathered → s.world.end ≡ Some End.All → next_eps s.eps ≡ Some next → IsReady t limits start (s ∷ done) next gathered.prices.items
 ready_next t limits start done s next gathered ready left end more = (record { sold = end; next = more; each = left.sales.prices_are; kept = left.sales.price_is }, chain_more t limits start done s ready left.played)
@@ -86,8 +87,8 @@ first_is_only t next more e =
 
 followed_is_square : (t : Table) (limits : Limits) (start : Option (List ℤ)) (r : Stage) (rest : List Stage) (next : ℤ) → length t.rows < t.objects → Chain t limits start (r ∷ rest) → next_eps r.eps ≡ Some next → ⊥
 followed_is_square t limits None r [] next more chain e = first_is_only t next more (ap next_eps (sym chain.1.0) ∙ e)
-followed_is_square t limits (Some prices) r [] next more chain e = let square = chain.1.2 in omega (arith, more, square)
-followed_is_square t limits start r (q ∷ rest) next more chain e = followed_is_square t limits start q rest r.eps more chain.2 chain.1.next
+followed_is_square t limits (Some prices) r [] next more chain e = let square = chain.1.square in omega (arith, more, square)
+followed_is_square t limits start r (q ∷ rest) next more chain e = followed_is_square t limits start q rest r.eps more chain.before chain.follows.next
 
 -- a phase from prices of 0 leaves price 0 to objects without a holder
 made_price : (t : Table) (limits : Limits) (prices : List ℤ) (eps : ℤ) (made : Parts) → AreLimits limits → IsMade t limits prices eps made → (j : ℕ) → (world_of made).price j ≡ price_at prices j
@@ -106,7 +107,7 @@ free_from_zeros t limits s ok played zeros j none =
 pub priced_by_holders : (p : Problem) (t : Table) (limits : Limits) (start : Option (List ℤ)) (done : List Stage) (s : Stage) → AreLimits limits → IsTable t → IsTableOf p t → IsReady t limits start done s.eps s.prices → IsPlayed t limits s
     → IsSquare p ⊎ ((j : ℕ) → s.world.holder j ≡ None → s.world.price j ≡ pos 0)
 priced_by_holders p t limits None [] s ok table its ready played = inr (free_from_zeros t limits s ok played ready.1)
-priced_by_holders p t limits (Some prices) [] s ok table its ready played = let square = ready.2 in inl (omega (arith, square, its.objects, length-rows p t its))
+priced_by_holders p t limits (Some prices) [] s ok table its ready played = let square = ready.square in inl (omega (arith, square, its.objects, length-rows p t its))
 priced_by_holders p t limits start (r ∷ rest) s ok table its ready played =
     elim (cases_lt (length t.rows) t.objects) [
       | inl more ↦ absurd (followed_is_square t limits start r rest s.eps more ready.1 ready.0.next)
@@ -123,7 +124,7 @@ module _ (p : Problem) (t : Table) (limits : Limits) (s : Stage) (gathered : Gat
   in_world j h e = sym (left.sales.holder_is j) ∙ e
 
   pub holds_one : NobodyHoldsTwo holders
-  holds_one j k a b e f same = (of_every_schedule (phase_of t limits.shards s.eps) s.world left.reached).2 j k a b (in_world j a e) (in_world k b f) same
+  holds_one j k a b e f same = (of_every_schedule (phase_of t limits.shards s.eps) s.world left.reached).held_once j k a b (in_world j a e) (in_world k b f) same
 
   -- if each person has an arc of a holder, the holders' arcs are these
   pub choice_of_holders : (choice : List Arc) → IsAssignment p choice → All (IsHeldArc p s.world) choice → IsChoiceOf p holders choice
@@ -139,7 +140,7 @@ module _ (p : Problem) (t : Table) (limits : Limits) (s : Stage) (gathered : Gat
         let own = held h.person none l in
         let person : (get_or choice h.person none).person ≡ 0 + h.person = person_at p.persons 0 h.person choice none given.persons l in
         let who = own.person in
-        let once : j ≡ (get_or choice h.person none).object = (of_every_schedule (phase_of t limits.shards s.eps) s.world left.reached).2 j (get_or choice h.person none).object h own.held (in_world j h e) own.holds (omega (arith, person, who)) in
+        let once : j ≡ (get_or choice h.person none).object = (of_every_schedule (phase_of t limits.shards s.eps) s.world left.reached).held_once j (get_or choice h.person none).object h own.held (in_world j h e) own.holds (omega (arith, person, who)) in
         let equal : h ≡ own.held = same_Some _ _ (sym (in_world j h e) ∙ (ap s.world.holder once ∙ own.holds)) in
         (get_or choice h.person none, Contains-get_or choice h.person none l, record { place = ap (λ (x : Held). slice_get p.arcs x.arc) equal ∙ own.place; his = omega (arith, person) })
         );
@@ -170,28 +171,34 @@ module _ (p : Problem) (t : Table) (limits : Limits) (start : Option (List ℤ))
     priced : length gathered.prices.items ≡ p.objects
     priced = left.sales.prices_are ∙ its.objects
 
-    chosen : (choice : List Arc) × IsAssignment p choice × All (IsHeldArc p s.world) choice × IsCertified p (claim_of choice gathered.prices.items)
+    chosen : HasCertified p s.world gathered.prices.items
     chosen = counted_are_certified p t limits.shards s.world gathered.prices.items is table its (priced_by_holders p t limits start done s ok table its ready left.played) at_one counted left.sales.price_is priced left.within
 
-    choice_is : IsChoiceOf p gathered.holders.items chosen.0
-    choice_is = choice_of_holders p t limits s gathered its left chosen.0 chosen.1 chosen.2
+    choice_is : IsChoiceOf p gathered.holders.items chosen.choice
+    choice_is = choice_of_holders p t limits s gathered its left chosen.choice chosen.assigned chosen.held
 
-    claim : IsClaimOf p s.world (claim_of chosen.0 gathered.prices.items)
-    claim = record { choice = chosen.0; assigned = chosen.1; held = chosen.2; prices = gathered.prices.items; each = priced; true_prices = left.sales.price_is; is = refl }
+    claim : IsClaimOf p s.world (claim_of chosen.choice gathered.prices.items)
+    claim = record { choice = chosen.choice; assigned = chosen.assigned; held = chosen.held; prices = gathered.prices.items; each = priced; true_prices = left.sales.price_is; is = refl }
 
     pub sold_is_answer : (answer : Answer) → IsOptimalAnswer p gathered.holders.items gathered.prices.items answer → IsAnswer p answer
     sold_is_answer (Answer.Optimal cert) h = record { cost = total_cost h.0; choice = map pick_of h.0; prices = gathered.prices.items; is = h.2; certified = h.3 }
     sold_is_answer (Answer.Infeasible cert) h = absurd h
     sold_is_answer (Answer.Bracket cert) h = absurd h
-    sold_is_answer (Answer.Broken guard) h = absurd (h.1 chosen.0 choice_is chosen.3)
+    sold_is_answer (Answer.Broken guard) h = absurd (h.1 chosen.choice choice_is chosen.certified)
 
     pub sold_is_of_run : (answer : Answer) → IsOptimalAnswer p gathered.holders.items gathered.prices.items answer → IsOfRun p limits start answer
     sold_is_of_run (Answer.Optimal cert) h =
-        let one = one_choice p gathered.holders.items h.0 chosen.0 h.1 choice_is in
-        (s, ends_in, last, end, subst (IsClaimOf p s.world) (sym (h.2 ∙ ap (λ (xs : List Arc). claim_of xs gathered.prices.items) one)) claim)
+        let one = one_choice p gathered.holders.items h.0 chosen.choice h.1 choice_is in
+        record {
+          last = s;
+          run = ends_in;
+          at_one = last;
+          sold = end;
+          claim = subst (IsClaimOf p s.world) (sym (h.2 ∙ ap (λ (xs : List Arc). claim_of xs gathered.prices.items) one)) claim;
+        }
     sold_is_of_run (Answer.Infeasible cert) h = absurd h
     sold_is_of_run (Answer.Bracket cert) h = absurd h
-    sold_is_of_run (Answer.Broken guard) h = absurd (h.1 chosen.0 choice_is chosen.3)
+    sold_is_of_run (Answer.Broken guard) h = absurd (h.1 chosen.choice choice_is chosen.certified)
 
   -- ---- a limit has stopped the last phase
 
@@ -202,9 +209,9 @@ module _ (p : Problem) (t : Table) (limits : Limits) (start : Option (List ℤ))
       let below = (kept_reached (phase_of t limits.shards s.eps) s.world left.reached).inv.holder_range j h here in
       let right = holders_slack (phase_of t limits.shards s.eps) s.world left.reached j h here in
       let rows = length-rows p t its in
-      let own : Contains (row h.person p.arcs) right.0 = subst (λ (xs : List RowArc). Contains xs right.0) (row_is p t its h.person (omega (arith, below, rows))) right.1 in
-      let x = stands_for h.person p.arcs right.0 own in
-      (x.0, record { by = record { place = ap (slice_get p.arcs) (sym right.3) ∙ x.1.there; his = x.1.person }; leads = x.1.object ∙ right.2 })
+      let own : Contains (row h.person p.arcs) right.arc = subst (λ (xs : List RowArc). Contains xs right.arc) (row_is p t its h.person (omega (arith, below, rows))) right.listed in
+      let x = stands_for h.person p.arcs right.arc own in
+      (x.0, record { by = record { place = ap (slice_get p.arcs) (sym right.place) ∙ x.1.there; his = x.1.person }; leads = x.1.object ∙ right.leads })
 
   placeable : ArePlaceable p gathered.holders.items
   placeable = record { each = placed_rightly; once = holds_one p t limits s gathered its left }
@@ -226,7 +233,11 @@ module _ (p : Problem) (t : Table) (limits : Limits) (start : Option (List ℤ))
     pub stopped_is_of_run : (answer : Answer) → IsBracketAnswer p reason gathered.holders.items gathered.prices.items answer → IsOfRun p limits start answer
     stopped_is_of_run (Answer.Optimal cert) h = absurd h
     stopped_is_of_run (Answer.Infeasible cert) h = tt
-    stopped_is_of_run (Answer.Bracket cert) h = (s, ends_in, record { reason = reason; stopped = stopped; prices = gathered.prices.items; each = left.sales.prices_are ∙ its.objects; true_prices = left.sales.price_is; by = h.1; holders = gathered.holders.items; holders_are = left.sales.holder_is; grown = h.3 })
+    stopped_is_of_run (Answer.Bracket cert) h = record {
+      last = s;
+      run = ends_in;
+      bracket = record { reason = reason; stopped = stopped; prices = gathered.prices.items; each = left.sales.prices_are ∙ its.objects; true_prices = left.sales.price_is; by = h.1; holders = gathered.holders.items; holders_are = left.sales.holder_is; grown = h.3 };
+    }
     stopped_is_of_run (Answer.Broken guard) h = absurd (h.1 placeable (bound_is_cost has))
 
 -- ---- the same of what the code answers

@@ -32,7 +32,7 @@ use Rattle.auc_machine.specs.Rounds.{Rounds}
 use Rattle.auc_machine.proofs.RoundLaws.{rounds_schedule}
 
 pub nobody_stuck : (t : Table) (shards : ℕ) (eps : ℤ) → NobodyStuck t → SomeoneStuck (phase_of t shards eps) → ⊥
-nobody_stuck t shards eps all (i, l, none) = all i l none
+nobody_stuck t shards eps all stuck = all stuck.person stuck.known stuck.no_arc
 
 -- a stop that stands for a limit is for its reason
 stop_is : (why : Why) (reason : Reason) → stop_of why ≡ Ok reason → why ≡ why_of reason
@@ -53,8 +53,8 @@ never_guarded g v Why.Posts guard r arcs e s = cc
 never_guarded g v Why.Trail guard r arcs e s = cc
 never_guarded g v Why.Mail guard r arcs e s = cc
 never_guarded g v Why.Stuck guard r arcs e s = arcs (stuck_only g v r e)
-never_guarded g v Why.Fell guard r arcs e s = (of_every_schedule g v r).0.0 e
-never_guarded g v Why.Stray guard r arcs e s = (of_every_schedule g v r).0.1 e
+never_guarded g v Why.Fell guard r arcs e s = (of_every_schedule g v r).no_guard.fell e
+never_guarded g v Why.Stray guard r arcs e s = (of_every_schedule g v r).no_guard.stray e
 
 -- ---- what a played phase comes to, of the parts of its worlds
 
@@ -87,10 +87,10 @@ module _ (t : Table) (limits : Limits) (prices : List ℤ) (eps : ℤ) (table : 
       record { played = played e end; reached = reached; sales = subst (λ (n : ℕ). AreSales n (world_of v) gathered.holders.items gathered.prices.items) objects sales; within = range }
 
   pub comes_to_sale : (gathered : Gathered) → (world_of v).end ≡ Some End.All → IsGathered v gathered.holders.items gathered.prices.items → All IsPrice gathered.prices.items → ComesOf t limits prices eps (Outcome.Sold gathered)
-  comes_to_sale gathered end sales range = (world_of v, left End.All gathered end sales range, end)
+  comes_to_sale gathered end sales range = record { world = world_of v; left = left End.All gathered end sales range; ended = end }
 
   pub comes_to_stop : (why : Why) (reason : Reason) (gathered : Gathered) → stop_of why ≡ Ok reason → (world_of v).end ≡ Some (End.Stopped why) → IsGathered v gathered.holders.items gathered.prices.items → All IsPrice gathered.prices.items → ComesOf t limits prices eps (Outcome.Stopped reason gathered)
-  comes_to_stop why reason gathered stop end sales range = (world_of v, left (End.Stopped why) gathered end sales range, end ∙ ap (λ (w : Why). Some (End.Stopped w)) (stop_is why reason stop))
+  comes_to_stop why reason gathered stop end sales range = record { world = world_of v; left = left (End.Stopped why) gathered end sales range; ended = end ∙ ap (λ (w : Why). Some (End.Stopped w)) (stop_is why reason stop) }
 
   pub comes_to_no_guard : (why : Why) (guard : Guard) → stop_of why ≡ Err guard → (world_of v).end ≡ Some (End.Stopped why) → ⊥
   comes_to_no_guard why guard stop end = never_guarded g (world_of v) why guard reached (nobody_stuck t limits.shards eps arcs) end stop

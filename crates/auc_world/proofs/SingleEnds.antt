@@ -167,9 +167,9 @@ module _ (x : Given) (s : SingleState) (h : IsGoing x s) (done : s.persons ≤ s
   ended = h.going.end ∙ rw (eq-eqb s.count (length x.table.rows) everyone) refl
 
   pub comes : (gathered : Gathered) → gathered.holders.items ≡ s.holders → gathered.prices.items ≡ s.prices → ComesOf x.table x.limits x.prices x.eps (Outcome.Sold gathered)
-  comes gathered holders prices = (
-    h.going.world,
-    record {
+  comes gathered holders prices = record {
+    world = h.going.world;
+    left = record {
       played = record {
         parts = h.parts;
         made = h.made;
@@ -185,9 +185,9 @@ module _ (x : Given) (s : SingleState) (h : IsGoing x s) (done : s.persons ≤ s
         price_is = λ j. ap (λ (ps : List ℤ). get_or ps j (pos 0)) prices ∙ sym (h.going.shows.price j);
       };
       within = subst (All IsPrice) (sym prices) (All-from_get_or IsPrice s.prices (pos 0) (λ j l. price_fit x h.given s h j));
-    },
-    ended,
-  )
+    };
+    ended = ended;
+  }
 
   -- no copy is above its price
   pub left : (lists : List (List Listed)) (list : List Listed) (prices : List ℤ) → length lists ≡ x.limits.shards → Kept x.table s.copies list → prices ≡ s.prices → MayKeep x.table x.limits.shards prices (set lists 0 list)
@@ -197,7 +197,7 @@ module _ (x : Given) (s : SingleState) (h : IsGoing x s) (done : s.persons ≤ s
         let one = h.given.single_shard.one in
         let only : i ≡ 0 = omega (arith, one, many, length-set lists 0 list, l) in
         let there : 0 < length lists = omega (arith, one, many) in
-        let low : (j : ℕ) → get_or s.copies j (pos 0) ≤ℤ get_or s.prices j (pos 0) = λ j. subst (λ (p : ℤ). get_or s.copies j (pos 0) ≤ℤ p) (h.going.shows.price j) (subst (λ (c : ℤ). c ≤ℤ h.going.world.price j) (h.going.shows.copy j) ((of_every_schedule g h.going.world h.going.reached).1 0 j)) in
+        let low : (j : ℕ) → get_or s.copies j (pos 0) ≤ℤ get_or s.prices j (pos 0) = λ j. subst (λ (p : ℤ). get_or s.copies j (pos 0) ≤ℤ p) (h.going.shows.price j) (subst (λ (c : ℤ). c ≤ℤ h.going.world.price j) (h.going.shows.copy j) ((of_every_schedule g h.going.world h.going.reached).copies_low 0 j)) in
         let now : Kept x.table prices list = subst (λ (ps : List ℤ). Kept x.table ps list) (sym are) (kept_rises x.table s.copies s.prices list low kept) in
         subst (λ (k : ℕ). Kept x.table prices (get_or (set lists 0 list) k [])) (sym only) (subst (Kept x.table prices) (sym (get_or-set_same lists 0 list [] there)) now)));
   }
@@ -208,9 +208,10 @@ pub comes_to_stop : (x : Given) (s : SingleState) (reason : Reason) → IsStoppe
 comes_to_stop x s reason h gathered holders prices =
     let one = h.given.single_shard.one in
     let g : Phase = phase_of x.table 1 x.eps in
-    let range : (j : ℕ) → IsPrice (get_or s.prices j (pos 0)) = λ j. subst IsPrice (h.ends.price j) ((kept_reached g h.ends.world h.ends.reached).inv.price_range j) in (
-      h.ends.world,
-      record {
+    let range : (j : ℕ) → IsPrice (get_or s.prices j (pos 0)) = λ j. subst IsPrice (h.ends.price j) ((kept_reached g h.ends.world h.ends.reached).inv.price_range j) in
+    record {
+      world = h.ends.world;
+      left = record {
         played = record {
           parts = h.parts;
           made = h.made;
@@ -226,6 +227,6 @@ comes_to_stop x s reason h gathered holders prices =
           price_is = λ j. ap (λ (ps : List ℤ). get_or ps j (pos 0)) prices ∙ sym (h.ends.price j);
         };
         within = subst (All IsPrice) (sym prices) (All-from_get_or IsPrice s.prices (pos 0) (λ j l. range j));
-      },
-      h.ends.end,
-    )
+      };
+      ended = h.ends.end;
+    }

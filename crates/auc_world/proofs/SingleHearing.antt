@@ -122,7 +122,7 @@ module _ (g : Phase) (one : g.shards ≡ 1) (small : g.persons < nobody) (allowe
           reply = TurnReply.Moved;
           turned = turn1 l ls e is are;
           reached = reached_turn g w (w1 l ls e is are) (Turn.PersonTake 0) TurnReply.Moved reached (turn1 l ls e is are);
-          shows = shown l ls e is are _ _ _ (copies_set l ls e is are j p right.0.2 is.1 is.0) (shows.idle ∙ (sym (append-nil s.idle) ∙ ap (λ (xs : List ℕ). s.idle ++ xs) (sym (freed_nobody t is.2))));
+          shows = shown l ls e is are _ _ _ (copies_set l ls e is are j p right.0.object is.object is.price) (shows.idle ∙ (sym (append-nil s.idle) ∙ ap (λ (xs : List ℕ). s.idle ++ xs) (sym (freed_nobody t is.freed_is))));
           still = still;
         }
     heard_by (Letter.Refused i j p) ls e is are =
@@ -133,7 +133,7 @@ module _ (g : Phase) (one : g.shards ≡ 1) (small : g.persons < nobody) (allowe
           reply = TurnReply.Moved;
           turned = turn1 l ls e is are;
           reached = reached_turn g w (w1 l ls e is are) (Turn.PersonTake 0) TurnReply.Moved reached (turn1 l ls e is are);
-          shows = shown l ls e is are _ _ _ (copies_set l ls e is are j p right.0.2 is.1 is.0) (ap (λ (xs : List ℕ). xs ++ i ∷ []) shows.idle ∙ ap (λ (xs : List ℕ). s.idle ++ xs) (sym (freed_one t i is.2 (let a = right.0.0 in omega (arith, a, small)))));
+          shows = shown l ls e is are _ _ _ (copies_set l ls e is are j p right.0.object is.object is.price) (ap (λ (xs : List ℕ). xs ++ i ∷ []) shows.idle ∙ ap (λ (xs : List ℕ). s.idle ++ xs) (sym (freed_one t i is.freed_is (let a = right.0.person in omega (arith, a, small)))));
           still = still;
         }
     heard_by (Letter.Outbid i j p) ls e is are =
@@ -144,7 +144,7 @@ module _ (g : Phase) (one : g.shards ≡ 1) (small : g.persons < nobody) (allowe
           reply = TurnReply.Moved;
           turned = turn1 l ls e is are;
           reached = reached_turn g w (w1 l ls e is are) (Turn.PersonTake 0) TurnReply.Moved reached (turn1 l ls e is are);
-          shows = shown l ls e is are _ _ _ (copies_set l ls e is are j p right.0.2 is.1 is.0) (ap (λ (xs : List ℕ). xs ++ i ∷ []) shows.idle ∙ ap (λ (xs : List ℕ). s.idle ++ xs) (sym (freed_one t i is.2 (let a = right.0.0 in omega (arith, a, small)))));
+          shows = shown l ls e is are _ _ _ (copies_set l ls e is are j p right.0.object is.object is.price) (ap (λ (xs : List ℕ). xs ++ i ∷ []) shows.idle ∙ ap (λ (xs : List ℕ). s.idle ++ xs) (sym (freed_one t i is.freed_is (let a = right.0.person in omega (arith, a, small)))));
           still = still;
         }
     heard_by (Letter.Price j p) ls e is are = absurd is

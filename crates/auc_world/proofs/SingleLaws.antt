@@ -33,7 +33,7 @@ use Rattle.auc_world.proofs.SingleHearing.{HearEnds, fits, hearing}
 use Rattle.auc_world.proofs.SingleMails.{gives_nothing, notices_many}
 use Rattle.auc_world.proofs.SingleSales.{SaleEnds, bid_ends}
 use Rattle.auc_world.proofs.Distinct.{at_most, occurs_here}
-use Rattle.auc_machine.proofs.RoundLaws.{plays_join, two_plays}
+use Rattle.auc_machine.proofs.RoundLaws.{five_plays, plays_join, two_plays}
 
 -- the notices that wait for the persons fit the world
 pub record TellsRight (g : Phase) (s : SingleState) (t : Notice) : Type 0 where
@@ -103,7 +103,7 @@ module _ (g : Phase) (one : g.shards ≡ 1) (small : g.persons < nobody) (start 
         unended = unended going more;
         moved = false;
         world = w;
-        played = (w, TurnReply.Nothing, false, bid, (w, TurnReply.Nothing, false, post, (w, TurnReply.Nothing, false, take, (w, TurnReply.Nothing, false, answer, (w, TurnReply.Nothing, false, answer, (refl, refl), refl), refl), refl), refl), refl);
+        played = five_plays g w w w w w w (Turn.Bid 0) (Turn.PersonPost 0) (Turn.ObjectTake 0) (Turn.ObjectPost 0) (Turn.ObjectPost 0) TurnReply.Nothing TurnReply.Nothing TurnReply.Nothing TurnReply.Nothing TurnReply.Nothing bid post take answer answer;
         reached = going.reached;
         firsts = 0;
         few = omega arith;
@@ -121,7 +121,7 @@ module _ (g : Phase) (one : g.shards ≡ 1) (small : g.persons < nobody) (start 
       record {
         rounds = suc half.rounds;
         world = counts.world;
-        led = (half.before, moved, half.led, half.unended, subst (λ (n : ℕ). Plays g half.before (round_of n) moved counts.world) (sym one) whole);
+        led = record { mid = half.before; moved = moved; before = half.led; unended = half.unended; played = subst (λ (n : ℕ). Plays g half.before (round_of n) moved counts.world) (sym one) whole };
         reached = counts.reached;
         shows = counts.shows;
         end = counts.end;
@@ -144,7 +144,7 @@ module _ (g : Phase) (one : g.shards ≡ 1) (small : g.persons < nobody) (start 
       let kept = kept_reached g going.world going.reached in
       let low = kept.inv.copy_range 0 j in
       let high = (kept.inv.price_range j).high in
-      let below = (of_every_schedule g going.world going.reached).1 0 j in
+      let below = (of_every_schedule g going.world going.reached).copies_low 0 j in
       subst IsPrice (going.shows.copy j) (record { low = low; high = omega (arith, ints, below, high) })
 
   -- each free person is there once
@@ -159,7 +159,7 @@ module _ (g : Phase) (one : g.shards ≡ 1) (small : g.persons < nobody) (start 
   idle_is i going first =
       let kept = kept_reached g going.world going.reached in
       let here : suc (occurs i (drop 1 s.idle)) ≡ free_in g (going.world.state i) 0 i = sym (ap (occurs i) (going.shows.idle ∙ first) ∙ occurs_here i (drop 1 s.idle)) ∙ kept.inv.idle_is 0 i in
-      (idle_facts g (going.world.state i) 0 i (occurs i (drop 1 s.idle)) here).2
+      (idle_facts g (going.world.state i) 0 i (occurs i (drop 1 s.idle)) here).known
 
   -- ---- what the persons hear fits
 
@@ -183,13 +183,13 @@ module _ (g : Phase) (one : g.shards ≡ 1) (small : g.persons < nobody) (start 
     right_by : (l : Letter) (ls : List Letter) → half.shows.mails.letters ≡ l ∷ ls → IsNoticeOf t l → AreNoticesOf (drop 1 s.notices) ls → TellsRight g s t
     right_by (Letter.Award i j p) ls e is are =
         let both = fits g one small allowed most s half.world half.reached half.firsts half.shows half.still t (drop 1 s.notices) first (Letter.Award i j p) ls e is are in
-        record { object = rw is.1 both.0.2; price = price_here p is.0 both.0.3; rises = copy_here j p is.1 is.0 both.1; freed = inl is.2; room = room_then }
+        record { object = rw is.object both.0.object; price = price_here p is.price both.0.price; rises = copy_here j p is.object is.price both.1; freed = inl is.freed_is; room = room_then }
     right_by (Letter.Refused i j p) ls e is are =
         let both = fits g one small allowed most s half.world half.reached half.firsts half.shows half.still t (drop 1 s.notices) first (Letter.Refused i j p) ls e is are in
-        record { object = rw is.1 both.0.2; price = price_here p is.0 both.0.3; rises = copy_here j p is.1 is.0 both.1; freed = inr (rw is.2 both.0.0); room = room_then }
+        record { object = rw is.object both.0.object; price = price_here p is.price both.0.price; rises = copy_here j p is.object is.price both.1; freed = inr (rw is.freed_is both.0.person); room = room_then }
     right_by (Letter.Outbid i j p) ls e is are =
         let both = fits g one small allowed most s half.world half.reached half.firsts half.shows half.still t (drop 1 s.notices) first (Letter.Outbid i j p) ls e is are in
-        record { object = rw is.1 both.0.2; price = price_here p is.0 both.0.3; rises = copy_here j p is.1 is.0 both.1; freed = inr (rw is.2 both.0.0); room = room_then }
+        record { object = rw is.object both.0.object; price = price_here p is.price both.0.price; rises = copy_here j p is.object is.price both.1; freed = inr (rw is.freed_is both.0.person); room = room_then }
     right_by (Letter.Price j p) ls e is are = absurd is
     right_by (Letter.Bid i a j p) ls e is are = absurd is
     right_by (Letter.First j) ls e is are = absurd is

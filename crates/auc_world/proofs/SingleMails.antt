@@ -27,20 +27,20 @@ module _ (nodes most : ℕ) where
   -- the shard of the persons posts
   pub post_first : (n : ℕ) (ls : List Letter) (b : Lane Letter) (l : Letter) → n + length ls < most → 0 < free_of (one_box nodes most (lane n ls) b)
       → Step (one_box nodes most (lane n ls) b) (Call.Post 0 0 l 0) (Reply.Posted (n + length ls + 1)) (one_box nodes most (lane n (ls ++ l ∷ [])) b)
-  post_first n ls b l few room = ((omega arith, omega arith), refl, few, room, refl, refl)
+  post_first n ls b l few room = record { lane = (omega arith, omega arith); accepts = refl; left = few; free = room; number = refl; next = refl }
 
   -- the shard of the objects posts
   pub post_second : (n : ℕ) (ls : List Letter) (a : Lane Letter) (l : Letter) → n + length ls < most → 0 < free_of (one_box nodes most a (lane n ls))
       → Step (one_box nodes most a (lane n ls)) (Call.Post 1 0 l 0) (Reply.Posted (n + length ls + 1)) (one_box nodes most a (lane n (ls ++ l ∷ [])))
-  post_second n ls a l few room = ((omega arith, omega arith), refl, few, room, refl, refl)
+  post_second n ls a l few room = record { lane = (omega arith, omega arith); accepts = refl; left = few; free = room; number = refl; next = refl }
 
   pub take_first : (n : ℕ) (ls : List Letter) (b : Lane Letter) (l : Letter)
       → Step (one_box nodes most (lane n (l ∷ ls)) b) (Call.Take 0) (Reply.Took (Taken.Letter 0 (n + 1) l)) (one_box nodes most (lane (n + 1) ls) b)
-  take_first n ls b l = (omega arith, omega arith, refl, (ls, refl, refl))
+  take_first n ls b l = record { box = omega arith; sender = omega arith; number = refl; rest = ls; first = refl; next = refl }
 
   pub take_second : (n : ℕ) (ls : List Letter) (a : Lane Letter) (l : Letter)
       → Step (one_box nodes most a (lane n (l ∷ ls))) (Call.Take 0) (Reply.Took (Taken.Letter 1 (n + 1) l)) (one_box nodes most a (lane (n + 1) ls))
-  take_second n ls a l = (omega arith, omega arith, refl, (ls, refl, refl))
+  take_second n ls a l = record { box = omega arith; sender = omega arith; number = refl; rest = ls; first = refl; next = refl }
 
   none_waits : (n k : ℕ) → NothingWaits (one_box nodes most (lane n []) (lane k [])) 0
   none_waits n k zero l = refl
@@ -49,7 +49,7 @@ module _ (nodes most : ℕ) where
   none_waits n k (suc (suc (suc s))) l = absurd (omega (arith, l))
 
   pub gives_nothing : (n k : ℕ) → TakesNone (one_box nodes most (lane n []) (lane k [])) 0
-  gives_nothing n k = inl (refl, none_waits n k, refl, omega arith)
+  gives_nothing n k = inl (record { accepts = refl; nothing = none_waits n k; same = refl; box = omega arith })
 
 pub step_at : (x y : Mail Letter) (c : Call Letter) (r : Reply Letter) (m : Mail Letter) → x ≡ y → Step y c r m → Step x c r m
 step_at x y c r m e step = subst (λ (z : Mail Letter). Step z c r m) (sym e) step

@@ -36,6 +36,7 @@ use Rattle.auc_world.specs.declared.single_shard.notice.Notice.{Notice}
 use Rattle.auc_world.specs.SingleState.{SingleState, AreFirsts, AreNoticesOf, Shows, awarded, first_of, frees, lane, one_box, sale_at, sale_turns, sold, notices_of_sale}
 use Rattle.auc_machine.specs.Rounds.{Plays}
 use Rattle.auc_world.proofs.SingleMails.{answer_fits, answer_turn, first_turn, one_first, post_first, post_turn, room_for, step_at, take_first, notices_one}
+use Rattle.auc_machine.proofs.RoundLaws.{five_plays}
 
 -- ---- lists in place of functions
 
@@ -186,7 +187,7 @@ module _ (g : Phase) (one : g.shards ≡ 1) (allowed most : ℕ) (enough : 2 * a
   to_only l = record { letter = l; to = To.Person 0; reserve = 0 }
 
   pub object_known : j < g.objects
-  object_known = fits.0
+  object_known = fits.object
 
   abbrev answered : Sale → List Out → World
   answered sale letters = record w2 { objects_mail = m2; price = put w2.price j sale.price; holder = put w2.holder j sale.holder; object_out = put w2.object_out 0 letters }
@@ -252,7 +253,7 @@ module _ (g : Phase) (one : g.shards ≡ 1) (allowed most : ℕ) (enough : 2 * a
 
   played_by : (w3 w4 w5 : World) (last : TurnReply) → Turned g w2 (Turn.ObjectTake 0) TurnReply.Moved w3 → Turned g w3 (Turn.ObjectPost 0) TurnReply.Moved w4 → Turned g w4 (Turn.ObjectPost 0) last w5 → Plays g w sale_turns true w5
   played_by w3 w4 w5 last take post again =
-      (w1, TurnReply.Moved, true, turn1, (w2, TurnReply.Moved, true, turn2, (w3, TurnReply.Moved, true, take, (w4, TurnReply.Moved, _, post, (w5, last, false, again, (refl, refl), refl), refl), refl), refl), refl)
+      five_plays g w w1 w2 w3 w4 w5 (Turn.Bid 0) (Turn.PersonPost 0) (Turn.ObjectTake 0) (Turn.ObjectPost 0) (Turn.ObjectPost 0) TurnReply.Moved TurnReply.Moved TurnReply.Moved TurnReply.Moved last turn1 turn2 take post again
 
   few_notices : k + length shows.mails.letters < most
   few_notices = let a = shows.mails.few_notices in omega (arith, a, left, enough)
@@ -291,7 +292,7 @@ module _ (g : Phase) (one : g.shards ≡ 1) (allowed most : ℕ) (enough : 2 * a
     price_here = sym (shows.price j)
 
     notices_here : AreNoticesOf (s.notices ++ frees i j (sale_at s j).price ∷ []) (ls ++ refused ∷ [])
-    notices_here = notices_one s.notices ls (frees i j (sale_at s j).price) refused shows.mails.tells (price_here, refl, refl)
+    notices_here = notices_one s.notices ls (frees i j (sale_at s j).price) refused shows.mails.tells (record { price = price_here; object = refl; freed_is = refl })
 
     fits_here : length ls < 4 * g.persons
     fits_here = answer_fits g one most w3 reached3 usual3 refused _ [] refl k ls shows.mails.persons few_notices refl posted
@@ -401,7 +402,7 @@ module _ (g : Phase) (one : g.shards ≡ 1) (allowed most : ℕ) (enough : 2 * a
             few = omega arith;
             shows = shown sale (awarded j amount ∷ []) 1 f5.price f5.holder f5.persons_mail f5.hub_mail f5.object_out (ls ++ award ∷ []) (shows.mails.waiting ++ Letter.First j ∷ [])
                 price_set holder_set refl
-                refl (notices_one s.notices ls (awarded j amount) award shows.mails.tells (refl, refl, refl)) (omega (arith, longer, fits_f4)) (omega (arith, longer))
+                refl (notices_one s.notices ls (awarded j amount) award shows.mails.tells (record { price = refl; object = refl; freed_is = refl })) (omega (arith, longer, fits_f4)) (omega (arith, longer))
                 refl (one_first shows.mails.waiting j shows.mails.are_firsts) (omega (arith, longer_hub, one_more)) (omega (arith, longer_hub)) (omega (arith, more));
             still = end;
             unsold = λ e. absurd (omega (arith, e));
@@ -450,8 +451,8 @@ module _ (g : Phase) (one : g.shards ≡ 1) (allowed most : ℕ) (enough : 2 * a
 
       notices_both : AreNoticesOf (s.notices ++ frees old.person j amount ∷ awarded j amount ∷ []) ((ls ++ outbid ∷ []) ++ award ∷ [])
       notices_both =
-          let first_notice = notices_one s.notices ls (frees old.person j amount) outbid shows.mails.tells (refl, refl, refl) in
-          let both = notices_one (s.notices ++ frees old.person j amount ∷ []) (ls ++ outbid ∷ []) (awarded j amount) award first_notice (refl, refl, refl) in
+          let first_notice = notices_one s.notices ls (frees old.person j amount) outbid shows.mails.tells (record { price = refl; object = refl; freed_is = refl }) in
+          let both = notices_one (s.notices ++ frees old.person j amount ∷ []) (ls ++ outbid ∷ []) (awarded j amount) award first_notice (record { price = refl; object = refl; freed_is = refl }) in
           subst (λ (ts : List Notice). AreNoticesOf ts ((ls ++ outbid ∷ []) ++ award ∷ [])) (append_assoc s.notices (frees old.person j amount ∷ []) (awarded j amount ∷ [])) both
 
       pub sells_again : SaleEnds g allowed most w (sold g.eps s bid)

@@ -1,6 +1,6 @@
 -- How a phase with one shard of each kind ends before each person has an object: by a Stop of the only person shard. It
 -- never stalls.
-use Rattle.std.proofs.Common.{ℕ, suc, ◌+◌, ◌*◌, ◌<◌, ◌≡◌, ◌≢◌, ◌^◌, refl, arith, true, false, List, [], ◌∷◌, Option, None, drop, length, inr, sym, ap, subst, ◌∙◌}
+use Rattle.std.proofs.Common.{ℕ, suc, ◌+◌, ◌*◌, ◌<◌, ◌≡◌, ◌≢◌, ◌^◌, refl, arith, true, List, [], ◌∷◌, Option, None, drop, length, inr, sym, ap, subst, ◌∙◌}
 use Rattle.std.specs.Prelude.{ℤ, pos, ◌<ℤ◌, ◌||◌}
 use Rattle.auc_graph.specs.Bid.{IsBid}
 use Rattle.auc_graph.specs.declared.rows.RowArc.{RowArc}
@@ -36,7 +36,7 @@ use Rattle.auc_world.specs.SinglePhase.{StopEnds}
 use Rattle.auc_machine.specs.Rounds.{Plays, has_moved, round_of}
 use Rattle.auc_world.proofs.SingleLaws.{not_ended}
 use Rattle.auc_world.proofs.SingleMails.{gives_nothing, post_first, post_turn, room_for, step_at, take_first, take_second, notices_many}
-use Rattle.auc_machine.proofs.RoundLaws.{plays_join, two_plays}
+use Rattle.auc_machine.proofs.RoundLaws.{five_plays, plays_join, two_plays}
 
 -- ---- what the persons hear leaves prices, holders, the hub's mail and the end
 
@@ -50,14 +50,20 @@ record Hears (g : Phase) (w : World) : Type 0 where
   hub : world.hub_mail ≡ w.hub_mail
   end : world.end ≡ w.end
 
-keeps : (w : World) (l : Letter) → ((after_letter w 0 l).price ≡ w.price) × ((after_letter w 0 l).holder ≡ w.holder) × ((after_letter w 0 l).hub_mail ≡ w.hub_mail) × ((after_letter w 0 l).end ≡ w.end)
-keeps w (Letter.Award i j p) = (refl, refl, refl, refl)
-keeps w (Letter.Refused i j p) = (refl, refl, refl, refl)
-keeps w (Letter.Outbid i j p) = (refl, refl, refl, refl)
-keeps w (Letter.Price j p) = (refl, refl, refl, refl)
-keeps w (Letter.Bid i a j p) = (refl, refl, refl, refl)
-keeps w (Letter.First j) = (refl, refl, refl, refl)
-keeps w (Letter.Stop y) = (refl, refl, refl, refl)
+record KeepsSales (w v : World) : Type 0 where
+  price : v.price ≡ w.price
+  holder : v.holder ≡ w.holder
+  hub : v.hub_mail ≡ w.hub_mail
+  end : v.end ≡ w.end
+
+keeps : (w : World) (l : Letter) → KeepsSales w (after_letter w 0 l)
+keeps w (Letter.Award i j p) = record { price = refl; holder = refl; hub = refl; end = refl }
+keeps w (Letter.Refused i j p) = record { price = refl; holder = refl; hub = refl; end = refl }
+keeps w (Letter.Outbid i j p) = record { price = refl; holder = refl; hub = refl; end = refl }
+keeps w (Letter.Price j p) = record { price = refl; holder = refl; hub = refl; end = refl }
+keeps w (Letter.Bid i a j p) = record { price = refl; holder = refl; hub = refl; end = refl }
+keeps w (Letter.First j) = record { price = refl; holder = refl; hub = refl; end = refl }
+keeps w (Letter.Stop y) = record { price = refl; holder = refl; hub = refl; end = refl }
 
 module _ (g : Phase) (known : 0 < g.shards) (w : World) (reached : Reached g w) (nodes most k : ℕ) where
   hears_any : (ls : List Letter) → w.persons_mail ≡ one_box nodes most blank_lane (lane k ls) → Hears g w
@@ -71,7 +77,7 @@ module _ (g : Phase) (known : 0 < g.shards) (w : World) (reached : Reached g w) 
       let v : World = after_letter (record w { persons_mail = p1 }) 0 l in
       let turn : Turned g w (Turn.PersonTake 0) TurnReply.Moved v = PersonTakeTurn.hears 1 (k + 1) l p1 known takes fits.0 fits.1 refl refl in
       let same = keeps (record w { persons_mail = p1 }) l in
-      record { world = v; reply = TurnReply.Moved; turned = turn; reached = reached_turn g w v (Turn.PersonTake 0) TurnReply.Moved reached turn; price = same.0; holder = same.1; hub = same.2; end = same.3 }
+      record { world = v; reply = TurnReply.Moved; turned = turn; reached = reached_turn g w v (Turn.PersonTake 0) TurnReply.Moved reached turn; price = same.price; holder = same.holder; hub = same.hub; end = same.end }
 
 -- ---- a Stop
 
@@ -147,7 +153,7 @@ module _ (g : Phase) (one : g.shards ≡ 1) (start : World) (allowed most : ℕ)
     answer = PostTurn.no_letter (inr going.shows.object_out) refl refl
 
     sale : Plays g w sale_turns true w2
-    sale = (w1, TurnReply.Moved, true, turn1, (w2, TurnReply.Moved, false, turn2, (w2, TurnReply.Nothing, false, take, (w2, TurnReply.Nothing, false, answer, (w2, TurnReply.Nothing, false, answer, (refl, refl), refl), refl), refl), refl), refl)
+    sale = five_plays g w w1 w2 w2 w2 w2 (Turn.Bid 0) (Turn.PersonPost 0) (Turn.ObjectTake 0) (Turn.ObjectPost 0) (Turn.ObjectPost 0) TurnReply.Moved TurnReply.Moved TurnReply.Nothing TurnReply.Nothing TurnReply.Nothing turn1 turn2 take answer answer
 
     heard : Hears g w2
     heard = hears_any g known w2 reached2 (4 * g.persons) most going.shows.mails.heard going.shows.mails.letters going.shows.mails.persons
@@ -172,7 +178,7 @@ module _ (g : Phase) (one : g.shards ≡ 1) (start : World) (allowed most : ℕ)
         record {
           rounds = suc going.rounds;
           world = w4;
-          led = (w, moved, going.led, unended, subst (λ (n : ℕ). Plays g w (round_of n) moved w4) (sym one) whole);
+          led = record { mid = w; moved = moved; before = going.led; unended = unended; played = subst (λ (n : ℕ). Plays g w (round_of n) moved w4) (sym one) whole };
           reached = reached_turn g heard.world w4 Turn.HubTake TurnReply.Moved heard.reached turn4;
           end = ap (λ (e : Option End). first_end e (End.Stopped why)) (heard.end ∙ unended);
           price = λ j. ap (λ (f : ℕ → ℤ). f j) heard.price ∙ going.shows.price j;
@@ -188,7 +194,7 @@ module _ (g : Phase) (one : g.shards ≡ 1) (start : World) (allowed most : ℕ)
   stops_at_ceiling i first some arc amount bids high =
       let left : w.bids_left 0 ≢ 0 = λ e. some (sym going.shows.bids ∙ e) in
       let there : IsBid (scale g) g.spread g.eps (w.copy 0) (g.row i) arc amount = (let same : w.copy 0 ≡ copy_in s.copies = (λ c k. going.shows.copy k c) in rw same bids) in
-      stop_ends i first Why.Ceiling (left, (arc, amount, there, high))
+      stop_ends i first Why.Ceiling (record { left = left; arc = arc; amount = amount; bid = there; above = high })
 
   -- ---- some person is free, or a notice waits for the persons
 

@@ -26,12 +26,18 @@ pub record Follows (t : Table) (r : Stage) (eps : ℤ) (prices : List ℤ) : Typ
   pub each : length prices ≡ t.objects
   pub kept : ArePricesOf r.world prices
 
+-- the phase s was played, follows the phase r, and Before is true of r and the phases before it
+pub record GoesOn (t : Table) (limits : Limits) (s r : Stage) (Before : Type 0) : Type 0 where
+  pub played : IsPlayed t limits s
+  pub follows : Follows t r s.eps s.prices
+  pub before : Before
+
 -- The phases of a run, the last one first, each following the one before. The first one begins from start prices, or
 -- without them.
 abbrev pub Chain : Table → Limits → Option (List ℤ) → List Stage → Type 0
 Chain t limits start [] = ⊥
 Chain t limits start (s ∷ []) = IsPlayed t limits s × Begins t start s.eps s.prices
-Chain t limits start (s ∷ r ∷ rest) = IsPlayed t limits s × Follows t r s.eps s.prices × Chain t limits start (r ∷ rest)
+Chain t limits start (s ∷ r ∷ rest) = GoesOn t limits s r (Chain t limits start (r ∷ rest))
 
 -- a run of the problem with these limits whose last phase is this one
 pub record EndsIn (p : Problem) (limits : Limits) (start : Option (List ℤ)) (last : Stage) : Type 0 where
@@ -63,12 +69,24 @@ pub record IsBracketOf (p : Problem) (w : World) (cert : CertParts) : Type 0 whe
   pub holders_are : (j : ℕ) → holder_at holders j ≡ w.holder j
   pub grown : GrowsFrom p holders (picks_of cert)
 
+-- the last phase of a run, at eps 1, has sold an object to each person, and its world claims this least cost
+pub record EndsSold (p : Problem) (limits : Limits) (start : Option (List ℤ)) (cert : CertParts) : Type 0 where
+  pub last : Stage
+  pub run : EndsIn p limits start last
+  pub at_one : last.eps ≡ pos 1
+  pub sold : last.world.end ≡ Some End.All
+  pub claim : IsClaimOf p last.world cert
+
+-- a limit has stopped the last phase of a run, and its world claims this bracket
+pub record EndsStopped (p : Problem) (limits : Limits) (start : Option (List ℤ)) (cert : CertParts) : Type 0 where
+  pub last : Stage
+  pub run : EndsIn p limits start last
+  pub bracket : IsBracketOf p last.world cert
+
 -- What an answer says of its run. A least cost is claimed by the last world, at eps 1, in which each person has an
 -- object. A bracket is claimed by the prices of the last world, which a limit has stopped.
 abbrev pub IsOfRun : Problem → Limits → Option (List ℤ) → Answer → Type 0
-IsOfRun p limits start (Answer.Optimal cert) =
-    (last : Stage) × EndsIn p limits start last × (last.eps ≡ pos 1) × (last.world.end ≡ Some End.All)
-    × IsClaimOf p last.world cert
+IsOfRun p limits start (Answer.Optimal cert) = EndsSold p limits start cert
 IsOfRun p limits start (Answer.Infeasible cert) = Unit {0}
-IsOfRun p limits start (Answer.Bracket cert) = (last : Stage) × EndsIn p limits start last × IsBracketOf p last.world cert
+IsOfRun p limits start (Answer.Bracket cert) = EndsStopped p limits start cert
 IsOfRun p limits start (Answer.Broken guard) = ⊥

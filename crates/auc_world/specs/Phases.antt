@@ -38,14 +38,17 @@ pub record Leaves (t : Table) (limits : Limits) (s : Stage) (gathered : Gathered
   pub sales : AreSales t.objects s.world gathered.holders.items gathered.prices.items
   pub within : All IsPrice gathered.prices.items
 
+-- the phase at these prices and this eps was played, has this end, and leaves what was gathered
+pub record EndsWith (t : Table) (limits : Limits) (prices : List ℤ) (eps : ℤ) (gathered : Gathered) (end : End) : Type 0 where
+  pub world : World
+  pub left : Leaves t limits (record { eps = eps; prices = prices; world = world }) gathered
+  pub ended : world.end ≡ Some end
+
 -- The outcome of a phase at these prices and this eps: each person has an object, or a limit has stopped it. No guard
 -- is hit, and it never stalls.
 abbrev pub ComesOf : Table → Limits → List ℤ → ℤ → Outcome → Type 0
-ComesOf t limits prices eps (Outcome.Sold gathered) =
-    (v : World) × Leaves t limits (record { eps = eps; prices = prices; world = v }) gathered × (v.end ≡ Some End.All)
-ComesOf t limits prices eps (Outcome.Stopped reason gathered) =
-    (v : World) × Leaves t limits (record { eps = eps; prices = prices; world = v }) gathered
-    × (v.end ≡ Some (End.Stopped (why_of reason)))
+ComesOf t limits prices eps (Outcome.Sold gathered) = EndsWith t limits prices eps gathered End.All
+ComesOf t limits prices eps (Outcome.Stopped reason gathered) = EndsWith t limits prices eps gathered (End.Stopped (why_of reason))
 ComesOf t limits prices eps (Outcome.Broken guard) = ⊥
 
 -- after a phase that has sold all, the lists are correct at the prices that it left

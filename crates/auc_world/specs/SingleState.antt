@@ -82,11 +82,17 @@ heard s t = record s { copies = slice_set s.copies t.object t.price; notices = d
 
 -- ---- the world that is seen in it
 
+-- the notice is about the object j, with the price p, and frees this person
+pub record IsNoticeAbout (t : Notice) (j : ℕ) (p : ℤ) (freed : ℕ) : Type 0 where
+  pub price : t.price ≡ p
+  pub object : t.object ≡ j
+  pub freed_is : t.freed ≡ freed
+
 -- the notice says what the letter says
 abbrev pub IsNoticeOf : Notice → Letter → Type 0
-IsNoticeOf t (Letter.Award i j p) = (t.price ≡ p) × (t.object ≡ j) × (t.freed ≡ nobody)
-IsNoticeOf t (Letter.Refused i j p) = (t.price ≡ p) × (t.object ≡ j) × (t.freed ≡ i)
-IsNoticeOf t (Letter.Outbid i j p) = (t.price ≡ p) × (t.object ≡ j) × (t.freed ≡ i)
+IsNoticeOf t (Letter.Award i j p) = IsNoticeAbout t j p nobody
+IsNoticeOf t (Letter.Refused i j p) = IsNoticeAbout t j p i
+IsNoticeOf t (Letter.Outbid i j p) = IsNoticeAbout t j p i
 IsNoticeOf t (Letter.Price j p) = ⊥
 IsNoticeOf t (Letter.Bid i a j p) = ⊥
 IsNoticeOf t (Letter.First j) = ⊥

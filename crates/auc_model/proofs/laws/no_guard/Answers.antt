@@ -4,9 +4,9 @@ use Rattle.auc_model.proofs.laws.no_guard.Goals as goal
 
 pub returns : goal.returns
 returns c = record {
-  fell = (λ g v r. (of_every_schedule g v r).0.0);
-  stray = (λ g v r. (of_every_schedule g v r).0.1);
-  trail = (λ g v r. (of_every_schedule g v r).0.2);
+  fell = (λ g v r. (of_every_schedule g v r).no_guard.fell);
+  stray = (λ g v r. (of_every_schedule g v r).no_guard.stray);
+  trail = (λ g v r. (of_every_schedule g v r).no_guard.trail);
   mail = no_mail_stop;
   hears = (λ g v r. hears_well g v r.lawful (kept_reached g v r));
   sells = (λ g v r. sells_well g v r.lawful (kept_reached g v r));

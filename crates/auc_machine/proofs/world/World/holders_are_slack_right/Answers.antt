@@ -9,8 +9,8 @@ returns c =
     let r = c.requires in
     let all = of_every_schedule g v r in
     record {
-      copies_low = all.1;
-      held_once = all.2;
+      copies_low = all.copies_low;
+      held_once = all.held_once;
       slack = holders_slack g v r;
       counted = (counted_le g v r).0;
     }

@@ -9,11 +9,11 @@ returns c =
     let v = world_of c.args.self.now in
     let r = c.requires in
     let k = kept_reached g v r in
-    let none = (of_every_schedule g v r).0 in
+    let none = (of_every_schedule g v r).no_guard in
     record {
-      fell = none.0;
-      stray = none.1;
-      trail = none.2;
+      fell = none.fell;
+      stray = none.stray;
+      trail = none.trail;
       mail = no_mail_stop g v r;
       hears = hears_well g v r.lawful k;
       sells = sells_well g v r.lawful k;

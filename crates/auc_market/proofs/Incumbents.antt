@@ -1,6 +1,6 @@
 -- The incumbent may be held again at any prices in range, if there are as many objects as persons.
 use Rattle.std.proofs.Common.{ℕ, ℤ, ◌≡◌, ◌≢◌, ◌<◌, ◌+◌, ◌∙◌, arith, List, length, set, ap, inl, inr, refl, subst, sym}
-use Rattle.std.specs.Prelude.{All}
+use Rattle.std.specs.Prelude.{All, ◌⊎◌}
 use Rattle.std.proofs.lemmas.Bool.{cases_eq, cases_lt}
 use Rattle.std.proofs.lemmas.List.{get_or-set_same, get_or-set_other, get_or_past}
 use Rattle.std.proofs.lemmas.List.Elements.{All-contains}
@@ -106,12 +106,18 @@ handed_on p reason law square many seats prices holders owns prices_are owns_are
 module _ (r : FlatTable) (eps : ℤ) (prices : List ℤ) (old : Holdings) (before : Incumbent) (new : Holdings) (after : Incumbent) (square : r.objects ≡ length r.rows) (sound : IsFlatTable r) (stands : Stands r eps prices old.holders.items old.owns.items) (is : IsIncumbent r before) where
   -- there are as many places as before
   pub aside_owns : AreSetAside old before new after → length new.owns.items ≡ length r.rows
-  aside_owns (inl same) = rw same.0 stands.owns_are
-  aside_owns (inr set) = rw set.1 is.owns_are
+  aside_owns aside = by aside.either
+    where
+      by : ((new.owns ≡ old.owns) × (after ≡ before)) ⊎ ((after.owns ≡ old.owns) × (new.owns ≡ before.owns)) → length new.owns.items ≡ length r.rows
+      by (inl same) = rw same.0 stands.owns_are
+      by (inr set) = rw set.1 is.owns_are
 
   pub aside_is : AreSetAside old before new after → IsIncumbent r after
-  aside_is (inl same) = subst (IsIncumbent r) (sym same.1) is
-  aside_is (inr set) = record {
-    owns_are = rw set.0 stands.owns_are;
-    seats = λ _. (square, rw set.0 (seats_of r eps prices old.holders.items old.owns.items sound stands));
-  }
+  aside_is aside = by aside.either
+    where
+      by : ((new.owns ≡ old.owns) × (after ≡ before)) ⊎ ((after.owns ≡ old.owns) × (new.owns ≡ before.owns)) → IsIncumbent r after
+      by (inl same) = subst (IsIncumbent r) (sym same.1) is
+      by (inr set) = record {
+        owns_are = rw set.0 stands.owns_are;
+        seats = λ _. (square, rw set.0 (seats_of r eps prices old.holders.items old.owns.items sound stands));
+      }

@@ -27,9 +27,20 @@ pub record IsIncumbent (r : FlatTable) (i : Incumbent) : Type 0 where
   pub owns_are : length i.owns.items ≡ length r.rows
   pub seats : i.is_whole ≡ true → (r.objects ≡ length r.rows) × AreSeats r i.owns.items
 
--- nothing has changed, or the incumbent is now what was held
-abbrev pub AreSetAside : Holdings → Incumbent → Holdings → Incumbent → Type 0
-AreSetAside old before new after =
-    ((new.owns ≡ old.owns) × (after ≡ before))
-    ⊎
-    ((after.owns ≡ old.owns) × (new.owns ≡ before.owns))
+-- prices and holders stay; nothing else has changed either, or the incumbent is now what was held
+pub record AreSetAside (old : Holdings) (before : Incumbent) (new : Holdings) (after : Incumbent) : Type 0 where
+  pub prices : new.prices ≡ old.prices
+  pub holders : new.holders ≡ old.holders
+  pub either : ((new.owns ≡ old.owns) × (after ≡ before)) ⊎ ((after.owns ≡ old.owns) × (new.owns ≡ before.owns))
+
+-- nobody holds anything, and these arcs lead to different objects
+pub record MayTakeUp (holders : List ℕ) (owns : List ShortArc) : Type 0 where
+  pub blank : (j : ℕ) → holder_at holders j ≡ NOBODY
+  pub apart : AreApart (length holders) owns
+
+-- each person holds the object of these arcs, at the prices before
+pub record AreTakenUp (owns : List ShortArc) (old new : Holdings) : Type 0 where
+  pub prices : new.prices.items ≡ old.prices.items
+  pub owns_are : new.owns.items ≡ owns
+  pub many : length new.holders.items ≡ length old.holders.items
+  pub taken : AreTaken (length owns) new.holders.items owns

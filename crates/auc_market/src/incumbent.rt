@@ -1,9 +1,8 @@
 //! The incumbent: the last full assignment. A run that is stopped answers with it, at the prices of the stop.
 
-ghost use Rattle.std.specs.Prelude.{ℕ, ◌≡◌, true, length};
-ghost use Rattle.auc_letters.specs.declared.limits.TheConstants.{NOBODY};
-ghost use Rattle.auc_market.specs.Incumbent.{AreApart, AreSetAside, AreTaken};
-ghost use Rattle.auc_market.specs.Market.{HaveObjects, holder_at};
+ghost use Rattle.std.specs.Prelude.{◌≡◌, true, length};
+ghost use Rattle.auc_market.specs.Incumbent.{AreSetAside, AreTakenUp, MayTakeUp};
+ghost use Rattle.auc_market.specs.Market.{HaveObjects};
 
 use crate::holdings::Holdings;
 use crate::watch::Best;
@@ -41,8 +40,6 @@ impl Holdings {
     /// Where each person has an object, within this eps of the best, these own arcs become the incumbent. The holdings
     /// are to be opened afterwards.
     pub(crate) fn set_aside(&mut self, eps: i64, incumbent: &mut Incumbent)
-        ensures prices { self.new.prices ≡ self.old.prices }
-        ensures holders { self.new.holders ≡ self.old.holders }
         ensures whole { HaveObjects (length self.old.owns.items) self.old.owns.items → (incumbent.new.is_whole ≡ true)
             × (incumbent.new.owns.items ≡ self.old.owns.items) }
         ensures aside { AreSetAside self.old incumbent.old self.new incumbent.new }
@@ -58,12 +55,8 @@ impl Holdings {
     /// After a phase has begun: each person holds the object of these arcs again.
     pub(crate) fn take_up(self, persons: u32, owns: Vec<ShortArc>) -> Holdings
         requires persons { persons ≡ length owns.items }
-        requires blank { (j : ℕ) → holder_at self.holders.items j ≡ NOBODY }
-        requires apart { AreApart (length self.holders.items) owns.items }
-        ensures prices { result.prices.items ≡ self.prices.items }
-        ensures owns { result.owns.items ≡ owns.items }
-        ensures many { length result.holders.items ≡ length self.holders.items }
-        ensures taken { AreTaken (length owns.items) result.holders.items owns.items }
+        requires may { MayTakeUp self.holders.items owns.items }
+        ensures { AreTakenUp owns.items self result }
     {
         let Holdings {
             prices,

@@ -18,8 +18,10 @@ take_up-requires c =
     let opened = c.open.new.self.holders.items in
     record {
       persons = c.persons.ensures.persons ∙ sym is.owns_are;
-      blank = opened_none held opened c.open.ensures.holders;
-      apart = rw (opened_many held opened c.open.ensures.holders, c.self.invariant.law.stands.holders_are) seats.1.apart;
+      may = record {
+        blank = opened_none held opened c.open.ensures.holders;
+        apart = rw (opened_many held opened c.open.ensures.holders, c.self.invariant.law.stands.holders_are) seats.1.apart;
+      };
     }
 
 pub returns : goal.returns
@@ -30,4 +32,4 @@ returns c =
     let up = c.take_up.ensures in
     let held = c.take_up.result in
     let many = up.many ∙ opened_many c.self.inside.holdings.holders.items c.open.new.self.holders.items c.open.ensures.holders ∙ law.stands.holders_are in
-    rw (← c.self.view_is, c.in-Stopped.is) (handed_on _ c.in-Stopped.field-0 law seats.0 is.owns_are seats.1 held.prices.items held.holders.items held.owns.items (up.prices ∙ c.open.ensures.prices) up.owns many up.taken)
+    rw (← c.self.view_is, c.in-Stopped.is) (handed_on _ c.in-Stopped.field-0 law seats.0 is.owns_are seats.1 held.prices.items held.holders.items held.owns.items (up.prices ∙ c.open.ensures.prices) up.owns_are many up.taken)

@@ -17,14 +17,14 @@ invariant_of-self c =
     let old = c.self.inside.holdings in
     let aside = c.set_aside.ensures.aside in
     let mid = c.set_aside.new.self in
-    let same = rw c.set_aside.ensures.prices at c.open.ensures.prices in
+    let same = rw c.set_aside.ensures.aside.prices at c.open.ensures.prices in
     let is = c.self.invariant.incumbent_is in
     simp to_z-of_z (record {
       law = record {
         sound = law.sound;
         arcs = law.arcs;
         eps = eps;
-        stands = rw same (stands_opened rows c.args.eps c.args.eps old.prices.items c.open.new.self.holders.items c.open.new.self.owns.items (length mid.holders.items) (length mid.owns.items) (record { each = law.stands.prices_are; within = law.stands.within; spare = inl square }) (rw c.set_aside.ensures.holders law.stands.holders_are) (aside_owns rows c.self.inside.eps old.prices.items old c.self.inside.incumbent mid c.set_aside.new.incumbent square law.sound law.stands is aside) c.open.ensures.holders c.open.ensures.owns);
+        stands = rw same (stands_opened rows c.args.eps c.args.eps old.prices.items c.open.new.self.holders.items c.open.new.self.owns.items (length mid.holders.items) (length mid.owns.items) (record { each = law.stands.prices_are; within = law.stands.within; spare = inl square }) (rw c.set_aside.ensures.aside.holders law.stands.holders_are) (aside_owns rows c.self.inside.eps old.prices.items old c.self.inside.incumbent mid c.set_aside.new.incumbent square law.sound law.stands is aside) c.open.ensures.holders c.open.ensures.owns);
       };
       kept = rw same c.self.invariant.kept;
       incumbent_is = aside_is rows c.self.inside.eps old.prices.items old c.self.inside.incumbent mid c.set_aside.new.incumbent square law.sound law.stands is aside;
@@ -36,6 +36,6 @@ returns c =
     let old = c.self.inside.holdings in
     let mid = c.set_aside.new.self in
     let new = c.open.new.self in
-    let same = rw c.set_aside.ensures.prices at c.open.ensures.prices in
+    let same = rw c.set_aside.ensures.aside.prices at c.open.ensures.prices in
     let opened = opened_is (state old.prices.items old.holders.items old.owns.items) (state new.prices.items new.holders.items new.owns.items) (length mid.owns.items) same c.open.ensures.owns in
     rw (← c.self.view_is) (simp to_z-of_z (record { table = refl; eps_is = refl; prices = opened.prices; none = opened.none; incumbent = c.set_aside.ensures.whole }))

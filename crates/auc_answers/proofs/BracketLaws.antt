@@ -131,4 +131,4 @@ module _ (p : Problem) (holders : List (Option Held)) (prices : List ℤ) (is : 
   -- so at most as many objects as persons have a price
   pub holders_price_few : length prices ≡ p.objects → IsSquare p ⊎ HasNoPriceUnheld holders prices → AreFewPriced p prices
   holders_price_few len (inl square) = square_are_few p prices square len
-  holders_price_few len (inr unheld) = (held_objects, omega (arith, length-map-range_with_len (λ i. found_by i 0 holders) 0 p.persons), λ j free. unheld j (nobody_holds j free))
+  holders_price_few len (inr unheld) = record { priced = held_objects; few = omega (arith, length-map-range_with_len (λ i. found_by i 0 holders) 0 p.persons); others = λ j free. unheld j (nobody_holds j free) }

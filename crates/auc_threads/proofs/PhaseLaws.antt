@@ -6,7 +6,7 @@ use Rattle.std.proofs.lemmas.List.Elements.{All-cons, All-head, All-nil, All-tai
 use Rattle.auc_threads.specs.Hearing.{Falls, SomebodyStuck}
 use Rattle.std.proofs.lemmas.List.{length-map}
 use Rattle.auc_threads.specs.Counting.{Closes, Counts, firsts_in}
-use Rattle.auc_threads.specs.Worked.{AreWorked, IsHub, audited, end_by, first_some}
+use Rattle.auc_threads.specs.Worked.{AreWorked, IsHub, IsWhyOfOne, audited, end_by, first_some}
 use Rattle.auc_threads.proofs.BuyingLaws.{bids_few, bids_made, bids_spent}
 use Rattle.auc_threads.proofs.StepLaws.{why_stop}
 use Rattle.auc_threads.proofs.WorkedLaws.{AreTrue, buyer_told, first_whose, is_noted, seller_told, stopped_for, value_at}
@@ -99,24 +99,24 @@ module _ {O P H : Type 0} (g : Setting) (r : Rooms) (xs : List (PersonWork O P H
   abbrev Bought : ℕ → PersonWork O P H → Type 0
   Bought k x = IsPersonResult g r k (bought_of x) x.why
 
-  pub stuck_told : (k : ℕ) × (k < length xs) × ((d : PersonWork O P H) → (get_or xs k d).why ≡ Some Why.Stuck) → SomebodyStuck g.table
+  pub stuck_told : IsWhyOfOne (λ w. w.why) xs Why.Stuck → SomebodyStuck g.table
   stuck_told s =
-      let at = placed_some Bought 0 xs s.0 results s.1 in
-      at.holds.work.stuck (ap (λ (x : PersonWork O P H). x.why) (sym (at.there at.element)) ∙ s.2 at.element)
+      let at = placed_some Bought 0 xs s.place results s.known in
+      at.holds.work.stuck (ap (λ (x : PersonWork O P H). x.why) (sym (at.there at.element)) ∙ s.its at.element)
 
   pub fell_told : (trail : List (TrailLine Letter)) → 0 < r.persons → All (λ x. Agrees trail x.seats.persons) xs → length xs ≡ g.limits.shards
-      → (k : ℕ) × (k < length xs) × ((d : PersonWork O P H) → (get_or xs k d).why ≡ Some Why.Fell)
+      → IsWhyOfOne (λ w. w.why) xs Why.Fell
       → (k : ℕ) × (k < g.limits.shards) × Falls (price_in g.prices) (taken_by k trail)
   fell_told trail room agree many s =
-      let at = placed_some Bought 0 xs s.0 results s.1 in
+      let at = placed_some Bought 0 xs s.place results s.known in
       let x = at.element in
-      let is : Bought s.0 x = subst (λ (m : ℕ). Bought m x) (omega arith) at.holds in
+      let is : Bought s.place x = subst (λ (m : ℕ). Bought m x) (omega arith) at.holds in
       let hears = is.work.hears in
       let told : letters_in x.seats.persons.lines ≡ hears.letters = took_told r.persons _ _ x.seats.persons hears.letters hears.took room in
-      let lines : lines_of s.0 trail ≡ x.seats.persons.lines =
-      ap (λ (m : ℕ). lines_of m trail) (sym is.seats.persons_seat) ∙ subst (λ (w : PersonWork O P H). Agrees trail w.seats.persons) (at.there x) (agree s.0 x s.1) in
-      let falls : Falls (price_in g.prices) hears.letters = hears.hears.falls (ap (λ (w : PersonWork O P H). w.why) (sym (at.there x)) ∙ s.2 x) in
-      (s.0, omega (arith, s.1, many), subst (λ ls. Falls (price_in g.prices) ls) (sym told ∙ ap letters_in (sym lines)) falls)
+      let lines : lines_of s.place trail ≡ x.seats.persons.lines =
+      ap (λ (m : ℕ). lines_of m trail) (sym is.seats.persons_seat) ∙ subst (λ (w : PersonWork O P H). Agrees trail w.seats.persons) (at.there x) (agree s.place x s.known) in
+      let falls : Falls (price_in g.prices) hears.letters = hears.hears.falls (ap (λ (w : PersonWork O P H). w.why) (sym (at.there x)) ∙ s.its x) in
+      (s.place, omega (arith, s.known, many), subst (λ ls. Falls (price_in g.prices) ls) (sym told ∙ ap letters_in (sym lines)) falls)
 
   -- the bids that they posted, by their seats at the objects' mail
   pub counted_told : (bids : List ℕ) (whys : List (Option Why)) (last : Option Why) (is_all : Bool) (end : Option End) → bids ≡ map (λ x. x.seats.objects.count) xs → length xs ≡ g.limits.shards
@@ -237,7 +237,7 @@ module _ {O P H : Type 0} (g : Setting) (o p h : Numbers) (w : Works O P H) (are
     (e : PhaseEnd)
     (gathers : (j : ℕ) (d : ObjectWork O P H) → j < g.table.objects → Gathers (get_or w.objects.items (j % g.limits.shards) d).shard j (price_in e.gathered.prices.items j) (get_or e.gathered.holders.items j None))
     (ends : (e.end ≡ Some End.All) ↔ IsTrue w.hub.is_all)
-    (falls : e.end ≡ Some (End.Stopped Why.Fell) → (k : ℕ) × (k < length w.persons.items) × ((d : PersonWork O P H) → (get_or w.persons.items k d).why ≡ Some Why.Fell))
+    (falls : e.end ≡ Some (End.Stopped Why.Fell) → IsWhyOfOne (λ w. w.why) w.persons.items Why.Fell)
     (so sp sh : List (Account Letter)) (eo : so ≡ seats_at (λ a. a.objects) w) (ep : sp ≡ seats_at (λ a. a.persons) w) (eh : sh ≡ seats_at (λ a. a.hub) w)
     (end_is : e.end ≡ end_by w.hub.is_all (first_some ((map (λ x. x.why) w.persons.items ++ map (λ x. x.why) w.objects.items) ++ w.hub.why ∷ [])))
     (counted : e.bids.items ≡ map (λ x. x.seats.objects.count) w.persons.items) (trails : Trails)

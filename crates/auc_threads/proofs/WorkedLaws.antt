@@ -13,7 +13,7 @@ use Rattle.auc_threads.specs.declared.object_worker.ObjectWork.{ObjectWork}
 use Rattle.auc_threads.specs.declared.person_worker.PersonWork.{PersonWork}
 use Rattle.auc_threads.specs.declared.settling.Trails.{Trails}
 use Rattle.auc_threads.specs.Starts.{HaveBought, HaveSold, IsObjectResult, IsObjectWork, IsPersonResult, IsPersonWork}
-use Rattle.auc_threads.specs.Worked.{AreNoted, IsBuyer, IsSeller, IsNoted, audited, end_by, first_some}
+use Rattle.auc_threads.specs.Worked.{AreNoted, IsBuyer, IsSeller, IsNoted, IsWhyOfOne, audited, end_by, first_some}
 use Rattle.auc_threads.specs.Worker.{Accounts, AreSeatsOf, Rooms, Setting, accounts_of, bought_of, new_buyer, new_seller, round, sold_of}
 use Rattle.auc_threads.proofs.BuyingLaws.{bids_few, bids_noted, bids_spent}
 use Rattle.auc_threads.proofs.PlacedLaws.{placed_some}
@@ -71,12 +71,6 @@ first_back (Some w ∷ ys) last why others here e = others e
 here_or_later : (o : Option Why) (whys : List (Option Why)) (why : Why) → first_some (o ∷ whys) ≡ Some why → (o ≡ Some why) ⊎ (first_some whys ≡ Some why)
 here_or_later None whys why e = inr e
 here_or_later (Some w) whys why e = inl e
-
--- one of them has this reason
-pub record IsWhyOfOne {X : Type 0} (f : X → Option Why) (xs : List X) (why : Why) : Type 0 where
-  pub place : ℕ
-  pub known : place < length xs
-  pub its : (d : X) → f (get_or xs place d) ≡ Some why
 
 -- is one of theirs
 pub first_whose : {X : Type 0} (f : X → Option Why) (xs : List X) (ys : List (Option Why)) (last : Option Why) (why : Why) → first_some ((map f xs ++ ys) ++ last ∷ []) ≡ Some why → first_some ys ≢ Some why → last ≢ Some why

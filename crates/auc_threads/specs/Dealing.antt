@@ -75,6 +75,12 @@ pub record DealsWith (eps : ℤ) (s : Objects) (letters : List Letter) (said : L
   pub said_are : said ≡ says_all eps s bids
   pub after : AfterLetters t stray step
 
+-- the same, where what it has to post is put behind what was noted before
+pub record DealsBehind (eps : ℤ) (s : Objects) (letters : List Letter) (old new : List Out) (t : Objects) (step : Step) : Type 0 where
+  pub more : List Out
+  pub behind : new ≡ old ++ more
+  pub dealt : DealsWith eps s letters more t step
+
 -- the same, where the worker took the letters from its box
 pub record Deals (eps : ℤ) (x : Box) (old : Taker Objects) (said : List Out) (new : Taker Objects) (step : Step) : Type 0 where
   pub letters : List Letter

@@ -38,7 +38,7 @@ first_kept false x xs a h = inr h
 equal_if : (m n : ℕ) → eqb m n ≡ true → m ≡ n
 equal_if m n h = grind (arith, nat_tests)
 
--- the arc of the list for which a row arc stands, and its place, where the first place has the number m
+-- the arc of the list that is this arc of the row, and its place, where the first place has the number m
 record IsAt (arcs : List Arc) (i m : ℕ) (a : RowArc) : Type 0 where
   pub at : ℕ
   pub arc : Arc

@@ -32,12 +32,12 @@ module _ (p : Problem) (reason : Reason) (prices : List ℤ) (is : IsProblem p) 
 
   -- if there is an assignment, and at most as many objects as persons have a price
   pub bound_fits : AreFewPriced p prices → HasAssignment p → BoundFits p prices
-  bound_fits few has lower bound = (bracket_in_range p has.0 prices lower reason is has.1 each within few bound).0
+  bound_fits few has lower bound = (bracket_in_range p has.0 prices lower reason is has.1 each within few bound).lower_fits
 
   pub certified_bracket : BoundFits p prices → (cert : CertParts) → IsBracketBy p reason prices cert → IsCertified p cert
   certified_bracket fits cert by =
       let other = assignment_in_range p by.choice prices is by.assigned each within in
-      let in_range : IsInRange (CertParts.Bracket reason by.lower (total_cost by.choice) (map pick_of by.choice) prices) = (fits by.lower by.bound, other.0, other.1) in
+      let in_range : IsInRange (CertParts.Bracket reason by.lower (total_cost by.choice) (map pick_of by.choice) prices) = record { lower_fits = fits by.lower by.bound; cost_fits = other.0; choice = other.1 } in
       let faultless = bracket_faultless p by.choice by.assigned prices each (total_cost by.choice) refl reason by.lower by.bound in
       subst (IsCertified p) (sym by.is)
       (record { in_range = in_range; faultless = faultless; allowed = faultless_is_allowed p (CertParts.Bracket reason by.lower (total_cost by.choice) (map pick_of by.choice) prices) is in_range faultless })
@@ -131,4 +131,4 @@ module _ (p : Problem) (holders : List (Option Held)) (prices : List ℤ) (is : 
   -- so at most as many objects as persons have a price
   pub holders_price_few : length prices ≡ p.objects → IsSquare p ⊎ HasNoPriceUnheld holders prices → AreFewPriced p prices
   holders_price_few len (inl square) = square_are_few p prices square len
-  holders_price_few len (inr unheld) = (held_objects, omega (arith, length-map-range_with_len (λ i. found_by i 0 holders) 0 p.persons), λ j free. unheld j (nobody_holds j free))
+  holders_price_few len (inr unheld) = record { priced = held_objects; few = omega (arith, length-map-range_with_len (λ i. found_by i 0 holders) 0 p.persons); others = λ j free. unheld j (nobody_holds j free) }

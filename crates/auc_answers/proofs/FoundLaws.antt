@@ -63,8 +63,10 @@ pub record IsFound (p : Problem) (holders : List (Option Held)) (count person : 
   pub is : pick ≡ pick_of arc
 
 -- the pick of a holder is at its person's place
-abbrev pub Stands : Problem → Held → List (Option Pick) → Type 0
-Stands p h found = (a : Arc) × HoldsBy p h a × (get_or found a.person None ≡ Some (pick_of a))
+pub record Stands (p : Problem) (h : Held) (found : List (Option Pick)) : Type 0 where
+  pub arc : Arc
+  pub by : HoldsBy p h arc
+  pub picked : get_or found arc.person None ≡ Some (pick_of arc)
 
 -- the picks of the first `count` holders, by person
 pub record AreFound (p : Problem) (holders : List (Option Held)) (count : ℕ) (found : List (Option Pick)) : Type 0 where
@@ -130,13 +132,13 @@ module _ (p : Problem) (holders : List (Option Held)) (count : ℕ) (found : Lis
     each_more : (j : ℕ) (g : Held) → j < count + 1 → holder_at holders j ≡ Some g → Stands p g written
     each_more j g lt e =
         elim (cases_eq j count) [
-          | inl at ↦ subst (λ (x : Held). Stands p x written) (sym (held_here j g e at)) (arc, mine, at_same)
-          | inr ne ↦ (let old = are.each j g (at_or_before count j lt ne) e in (old.0, old.1, at_other old.0.person (other_person old.0 old.2) ∙ old.2))
+          | inl at ↦ subst (λ (x : Held). Stands p x written) (sym (held_here j g e at)) (record { arc = arc; by = mine; picked = at_same })
+          | inr ne ↦ (let old = are.each j g (at_or_before count j lt ne) e in record { arc = old.arc; by = old.by; picked = at_other old.arc.person (other_person old.arc old.picked) ∙ old.picked })
         ]
 
     -- no earlier holder is this person
     nobody : (j : ℕ) (g : Held) → j < count → holder_at holders j ≡ Some g → g.person ≡ h.person → ⊥
-    nobody j g lt e same = let old = are.each j g lt e in other_person old.0 old.2 (old.1.his ∙ (same ∙ sym his))
+    nobody j g lt e same = let old = are.each j g lt e in other_person old.arc old.picked (old.by.his ∙ (same ∙ sym his))
 
     person_here : (j : ℕ) (g : Held) → holder_at holders j ≡ Some g → j ≡ count → g.person ≡ h.person
     person_here j g e at = ap (λ (x : Held). x.person) (held_here j g e at)
@@ -255,11 +257,11 @@ module _ (p : Problem) (holders : List (Option Held)) (found : List (Option Pick
     each_listed : (j : ℕ) (h : Held) → holder_at holders j ≡ Some h → (a : Arc) × Contains (chosen 0 picks) a × HoldsBy p h a
     each_listed j h e =
         let old = are.each j h (is_there holders j h e) e in
-        let a = old.0 in
-        let there : get_or (map Some picks) a.person None ≡ Some (pick_of a) = ap (λ (xs : List (Option Pick)). get_or xs a.person None) same ∙ old.2 in
+        let a = old.arc in
+        let there : get_or (map Some picks) a.person None ≡ Some (pick_of a) = ap (λ (xs : List (Option Pick)). get_or xs a.person None) same ∙ old.picked in
         let l = some_there picks a.person (pick_of a) there in
         let pick : get_or picks a.person (pick_of a) ≡ pick_of a = same_Some _ _ (sym (some_at picks a.person (pick_of a) l) ∙ there) in
-        (a, (a.person, (let n = length_chosen 0 picks in omega (arith, l, n)), chosen_first picks a.person a (pick_of a) l ∙ ap (arc_of a.person) pick), old.1)
+        (a, (a.person, (let n = length_chosen 0 picks in omega (arith, l, n)), chosen_first picks a.person a (pick_of a) l ∙ ap (arc_of a.person) pick), old.by)
 
     pub all_found : IsChoiceOf p holders (chosen 0 picks)
     all_found = record { persons = persons_are 0 picks ∙ ap (range_with_len 0) many; held = held_each; each = each_listed; once = λ j k a b e f s. are.once j k a b (is_there holders j a e) (is_there holders k b f) e f s }
@@ -274,10 +276,10 @@ module _ (p : Problem) (holders : List (Option Held)) (found : List (Option Pick
       let x = is.held c.0 d l in
       let person : (get_or choice c.0 d).person ≡ 0 + c.0 = person_at p.persons 0 c.0 choice d is.persons l in
       let old = are.each x.object x.held (is_there holders x.object x.held x.holds) x.holds in
-      let arc : old.0 ≡ get_or choice c.0 d = one_arc p x.held old.0 (get_or choice c.0 d) old.1.place x.by.place in
-      let at : old.0.person ≡ c.0 = let e = ap (λ (a : Arc). a.person) arc in omega (arith, e, person) in
-      let here : get_or found c.0 None ≡ Some (pick_of old.0) = subst (λ (i : ℕ). get_or found i None ≡ Some (pick_of old.0)) at old.2 in
-      none-some (pick_of old.0) (sym c.2 ∙ here)
+      let arc : old.arc ≡ get_or choice c.0 d = one_arc p x.held old.arc (get_or choice c.0 d) old.by.place x.by.place in
+      let at : old.arc.person ≡ c.0 = let e = ap (λ (a : Arc). a.person) arc in omega (arith, e, person) in
+      let here : get_or found c.0 None ≡ Some (pick_of old.arc) = subst (λ (i : ℕ). get_or found i None ≡ Some (pick_of old.arc)) at old.picked in
+      none-some (pick_of old.arc) (sym c.2 ∙ here)
 
 -- ---- holders have one choice at most
 
@@ -313,7 +315,7 @@ module _ (p : Problem) (holders : List (Option Held)) (prices : List ℤ) (picks
 -- the claim is the same for each choice of the holders' arcs
 module _ (p : Problem) (holders : List (Option Held)) (prices : List ℤ) (cert : CertParts) (made : IsClaimOf p holders prices cert) where
   one_claim : (choice : List Arc) → IsChoiceOf p holders choice → claim_of choice prices ≡ cert
-  one_claim choice is = ap (λ (xs : List Arc). claim_of xs prices) (one_choice p holders choice made.0 is made.1) ∙ sym made.2
+  one_claim choice is = ap (λ (xs : List Arc). claim_of xs prices) (one_choice p holders choice made.choice is made.held) ∙ sym made.claim_is
 
   pub refused_claim : (IsCertified p cert → ⊥) → (choice : List Arc) → IsChoiceOf p holders choice → IsCertified p (claim_of choice prices) → ⊥
   refused_claim refused choice is sound = refused (subst (IsCertified p) (one_claim choice is) sound)

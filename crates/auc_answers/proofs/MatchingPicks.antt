@@ -44,16 +44,16 @@ picks_name arcs k (m ∷ numbers) (a ∷ choice) (suc n) e f =
     ap (λ (b : Arc). b ∷ chosen (k + 1) (map (pick_at arcs) numbers)) first ∙ ap (λ (bs : List Arc). a ∷ bs) (picks_name arcs (k + 1) numbers choice n rest persons)
 
 is_assignment : (p : Problem) (numbers : List ℕ) → IsFullOf p numbers → IsAssignment p (chosen 0 (map (pick_at p.arcs) numbers))
-is_assignment p numbers (choice, assigned, are) = subst (IsAssignment p) (sym (picks_name p.arcs 0 numbers choice p.persons are assigned.persons)) assigned
+is_assignment p numbers full = subst (IsAssignment p) (sym (picks_name p.arcs 0 numbers full.choice p.persons full.arcs_are full.assigned.persons)) full.assigned
 
 pub as_many : (p : Problem) (numbers : List ℕ) (picks : List Pick) → IsFullOf p numbers → picks ≡ map (pick_at p.arcs) numbers → length picks ≡ p.persons
-as_many p numbers picks (choice, assigned, are) made =
-    let chosen_len : length choice ≡ p.persons = sym (length-map choice person_of) ∙ ap length assigned.persons ∙ length-range_with_len 0 p.persons in
-    let same : length numbers ≡ length choice = sym (length-map numbers (slice_get p.arcs)) ∙ ap length are ∙ length-map choice Some in
+as_many p numbers picks full made =
+    let chosen_len : length full.choice ≡ p.persons = sym (length-map full.choice person_of) ∙ ap length full.assigned.persons ∙ length-range_with_len 0 p.persons in
+    let same : length numbers ≡ length full.choice = sym (length-map numbers (slice_get p.arcs)) ∙ ap length full.arcs_are ∙ length-map full.choice Some in
     ap length made ∙ (length-map numbers (pick_at p.arcs) ∙ (same ∙ chosen_len))
 
 pub full_found : (p : Problem) (numbers : List ℕ) (made : List Pick) → IsFullOf p numbers → made ≡ map (pick_at p.arcs) numbers → IsAssignment p (chosen 0 made)
 full_found p numbers made full is = subst (λ (xs : List Pick). IsAssignment p (chosen 0 xs)) (sym is) (is_assignment p numbers full)
 
 pub full_within : (p : Problem) (numbers : List ℕ) → IsFullOf p numbers → All (λ n. n < length p.arcs) numbers
-full_within p numbers (choice, assigned, are) = all_within p.arcs numbers choice are
+full_within p numbers full = all_within p.arcs numbers full.choice full.arcs_are

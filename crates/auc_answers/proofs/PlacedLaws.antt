@@ -9,6 +9,7 @@ use Rattle.auc_graph.specs.declared.rows.RowArc.{RowArc}
 use Rattle.auc_graph.specs.Problem.{IsProblem, IsWithin, Problem}
 use Rattle.auc_graph.specs.Row.{row_arc}
 use Rattle.auc_graph.specs.Table.{IsTableOf, Table, row_of}
+use Rattle.auc_hall.specs.Matched.{HasObject}
 use Rattle.auc_hall.specs.Partial.{IsNotPlaced, MayPlace, pick}
 use Rattle.auc_hall.proofs.ProblemLaws.{in_row, row_is, stands_for}
 use Rattle.auc_letters.specs.declared.state.Held.{Held}
@@ -34,7 +35,7 @@ pub record IsPlacedBy (holders : List (Option Held)) (count person : ℕ) (a : R
 -- the first `count` holders have their arcs
 pub record ArePlaced (p : Problem) (holders : List (Option Held)) (count : ℕ) (choice : List (Option RowArc)) : Type 0 where
   pub only : (i : ℕ) (a : RowArc) → pick choice i ≡ Some a → IsPlacedBy holders count i a
-  pub all : (j : ℕ) (h : Held) → j < count → holder_at holders j ≡ Some h → (a : RowArc) × (pick choice h.person ≡ Some a) × (a.object ≡ j)
+  pub all : (j : ℕ) (h : Held) → j < count → holder_at holders j ≡ Some h → HasObject choice h.person j
   pub each : (j : ℕ) (h : Held) → j < count → holder_at holders j ≡ Some h → (a : Arc) × HoldsAt p j h a
   pub once : (j k : ℕ) (a b : Held) → j < count → k < count → holder_at holders j ≡ Some a → holder_at holders k ≡ Some b → a.person ≡ b.person → j ≡ k
 
@@ -107,7 +108,7 @@ module _ (p : Problem) (holders : List (Option Held)) (count : ℕ) (choice : Li
 
       -- no earlier holder is this person
       nobody : (j : ℕ) (g : Held) → j < count → holder_at holders j ≡ Some g → g.person ≡ h.person → ⊥
-      nobody j g lt e same = let old = are.all j g lt e in none-some old.0 (sym may.unplaced ∙ (ap (pick choice) (sym same) ∙ old.1))
+      nobody j g lt e same = let old = are.all j g lt e in none-some old.arc (sym may.unplaced ∙ (ap (pick choice) (sym same) ∙ old.picked))
 
       held_here : (j : ℕ) (g : Held) → holder_at holders j ≡ Some g → j ≡ count → g ≡ h
       held_here j g e at = same_Some _ _ (sym e ∙ (ap (holder_at holders) at ∙ here))
@@ -115,14 +116,14 @@ module _ (p : Problem) (holders : List (Option Held)) (count : ℕ) (choice : Li
       person_here : (j : ℕ) (g : Held) → holder_at holders j ≡ Some g → j ≡ count → g.person ≡ h.person
       person_here j g e at = ap (λ (x : Held). x.person) (held_here j g e at)
 
-      all_more : (j : ℕ) (g : Held) → j < count + 1 → holder_at holders j ≡ Some g → (b : RowArc) × (pick placed g.person ≡ Some b) × (b.object ≡ j)
+      all_more : (j : ℕ) (g : Held) → j < count + 1 → holder_at holders j ≡ Some g → HasObject placed g.person j
       all_more j g lt e =
           elim (cases_eq j count) [
-            | inl at ↦ (a, ap (pick placed) (person_here j g e at) ∙ at_same, leads ∙ sym at)
+            | inl at ↦ record { arc = a; picked = ap (pick placed) (person_here j g e at) ∙ at_same; object = leads ∙ sym at }
             | inr ne ↦ (
                 let l = at_or_before count j lt ne in
                 let old = are.all j g l e in
-                (old.0, at_other g.person (nobody j g l e) ∙ old.1, old.2)
+                record { arc = old.arc; picked = at_other g.person (nobody j g l e) ∙ old.picked; object = old.object }
                 )
           ]
 

@@ -18,8 +18,8 @@ use Rattle.auc_answers.specs.declared.preparing.Prepared.{Prepared}
 
 has_assignment : (p : Problem) (t : Table) → IsTableOf p t → HasRowAssignment t → HasAssignment p
 has_assignment p t of has =
-    let full = full_of p t (map number_of has.0) of (has.0, has.1, refl) in
-    (full.0, full.1)
+    let full = full_of p t (map number_of has.0) of (record { choice = has.0; assigned = has.1; numbers_are = refl }) in
+    (full.choice, full.assigned)
 
 a_row_arc : RowArc
 a_row_arc = record { cost = pos 0; object = 0; arc = 0 }
@@ -34,4 +34,4 @@ pub prepared : (p : Problem) (t : Table) → IsTableOf p t → HasRowAssignment 
 prepared p t of has = (of, chosen_there t has.0 has.1, has_assignment p t of has)
 
 pub full_has : (t : Table) (m : Matching) (numbers : List ℕ) → IsMatching t m → m ≡ Full numbers → HasRowAssignment t
-full_has t m numbers h is = let full = subst (IsMatching t) is h in (full.0, full.1)
+full_has t m numbers h is = let full = subst (IsMatching t) is h in (full.choice, full.assigned)

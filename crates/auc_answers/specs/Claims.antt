@@ -9,6 +9,7 @@ use Rattle.auc_graph.specs.declared.rows.RowArc.{RowArc}
 use Rattle.auc_graph.specs.Problem.{Problem}
 use Rattle.auc_graph.specs.Table.{IsTableOf, Table}
 use Rattle.auc_hall.specs.Completion.{IsGrownTo}
+use Rattle.auc_hall.specs.Matched.{HasObject}
 use Rattle.auc_hall.specs.Partial.{pick}
 use Rattle.auc_letters.specs.declared.state.Held.{Held}
 use Rattle.auc_claim.specs.declared.reason.Reason.{Reason}
@@ -61,8 +62,10 @@ abbrev pub claim_of : List Arc → List ℤ → CertParts
 claim_of choice prices = CertParts.Optimal (total_cost choice) (map pick_of choice) prices
 
 -- the claim that the holders' arcs cost least, with these prices as the proof
-abbrev pub IsClaimOf : Problem → List (Option Held) → List ℤ → CertParts → Type 0
-IsClaimOf p holders prices cert = (choice : List Arc) × IsChoiceOf p holders choice × (cert ≡ claim_of choice prices)
+pub record IsClaimOf (p : Problem) (holders : List (Option Held)) (prices : List ℤ) (cert : CertParts) : Type 0 where
+  pub choice : List Arc
+  pub held : IsChoiceOf p holders choice
+  pub claim_is : cert ≡ claim_of choice prices
 
 -- the person holds this object by an arc to it
 pub record HoldsAt (p : Problem) (object : ℕ) (held : Held) (arc : Arc) : Type 0 where
@@ -92,7 +95,7 @@ pub record HasAsHolder (holders : List (Option Held)) (person : ℕ) (arc : RowA
 -- the choice consists of exactly the holders' arcs
 pub record AreHoldersArcs (holders : List (Option Held)) (choice : List (Option RowArc)) : Type 0 where
   pub only : (i : ℕ) (a : RowArc) → pick choice i ≡ Some a → HasAsHolder holders i a
-  pub all : (j : ℕ) (h : Held) → holder_at holders j ≡ Some h → (a : RowArc) × (pick choice h.person ≡ Some a) × (a.object ≡ j)
+  pub all : (j : ℕ) (h : Held) → holder_at holders j ≡ Some h → HasObject choice h.person j
 
 -- the picks of a certificate
 abbrev pub picks_of : CertParts → List Pick

@@ -55,7 +55,7 @@ all_placed arcs picks choice n le len there placed =
 pub few : (n least end : ℕ) (xs : List ℕ) → ((i : ℕ) → Contains xs i → i < n) → Rises least end xs → least ≤ n → least + length xs ≤ n
 few n least end [] within rise le = omega (arith, le)
 few n least end (x ∷ xs) within rise le =
-    let above : least ≤ x = rise.0 in
+    let above : least ≤ x = rise.low in
     let here : x < n = within x (0, omega arith, refl) in
-    let more : x + 1 + length xs ≤ n = few n (x + 1) end xs (λ y c. within y (suc c.0, omega (arith, c.1), c.2)) rise.2 (omega (arith, here)) in
+    let more : x + 1 + length xs ≤ n = few n (x + 1) end xs (λ y c. within y (suc c.0, omega (arith, c.1), c.2)) rise.behind (omega (arith, here)) in
     omega (arith, more, above)

@@ -17,7 +17,7 @@ use Rattle.auc_cert.specs.Runs.{IsRun, BreaksOff, From}
 use Rattle.auc_cert.specs.SecondLine.{AreSizes}
 use Rattle.auc_cert.proofs.RunLaws.{picks_apart, prices_apart, same_run, same_rest, next_of}
 use Rattle.auc_cert.proofs.SizeLaws.{AreCounted, are_counted, objects_few, objects_fit, objects_some, persons_few, persons_fit}
-use Rattle.auc_cert.proofs.TextLines.{AreLines, GoesOn, bad_of, picks_lines, prices_lines, lines_append}
+use Rattle.auc_cert.proofs.TextLines.{AreLines, AreSameLists, GoesOn, bad_of, picks_lines, prices_lines, lines_append}
 use Rattle.auc_graph.proofs.PriceLaws.{zero_is_price}
 use Rattle.auc_cert.proofs.WriteLaws.{numbered_append}
 
@@ -82,11 +82,11 @@ bad_pick f n m r line h (k, at, b) =
     let own_place : k ≡ length (numbered assign_line 0 b.front) = sym (length_numbered assign_line 0 b.front ∙ len) in
     let bad : IsFirstBadOf (ChoiceLines f n m) r k =
     bad_of (ChoiceLines f n m) (numbered assign_line 0 b.front) r b.rest k (picks_lines (objects_in f) b.front (objects_few f) (omega arith) b.run.all) b.run.text own_place
-    (choice_lines choice prices) (choice, prices, spelled, persons, objects, refl) (numbered assign_line (0 + length b.front) pad ++ numbered price_line 0 prices) le
+    (choice_lines choice prices) (record { choice = choice; prices = prices; spelled = spelled; picks_are = persons; prices_are = objects; lines_are = refl }) (numbered assign_line (0 + length b.front) pad ++ numbered price_line 0 prices) le
     (λ ls of more e g.
-    let own : List Pick = of.0 in
-    let owns : List ℤ = of.1 in
-    let x = next_of Pick assign_line (IsPick (objects_in f)) 0 b.front own (numbered price_line 0 owns) more of.2.within.picks (omega (arith, of.3)) (sym of.5 ∙ e) in
+    let own : List Pick = of.choice in
+    let owns : List ℤ = of.prices in
+    let x = next_of Pick assign_line (IsPick (objects_in f)) 0 b.front own (numbered price_line 0 owns) more of.spelled.within.picks (omega (arith, of.picks_are)) (sym of.lines_are ∙ e) in
     let y : GoesOn (assign_line (0 + length b.front) x.value ∷ x.others) b.rest = subst (λ (m : List (List ℕ)). GoesOn m b.rest) x.is g in
     let z : 0 + length b.front ≡ k = omega arith in
     b.none x.value y.0 x.right (y.1 ∙ ap (λ (m : ℕ). assign_line m x.value ++ y.0) z)) in
@@ -112,13 +112,13 @@ bad_price f n m r picks r2 line h run (k, at, b) =
     let lines : AreLines front = lines_append (numbered assign_line 0 picks) (numbered price_line 0 b.front) (picks_lines (objects_in f) picks (objects_few f) (omega arith) run.all) (prices_lines b.front (omega arith) b.run.all) in
     let count : length front ≡ n + k = length-append (numbered assign_line 0 picks) (numbered price_line 0 b.front) ∙ omega (arith, length_numbered assign_line 0 picks, length_numbered price_line 0 b.front) in
     let bad : IsFirstBadOf (ChoiceLines f n m) r (n + k) =
-    bad_of (ChoiceLines f n m) front r b.rest (n + k) lines text (sym count) (choice_lines picks prices) (picks, prices, spelled, persons, objects, refl) (numbered price_line (0 + length b.front) pad) le
+    bad_of (ChoiceLines f n m) front r b.rest (n + k) lines text (sym count) (choice_lines picks prices) (record { choice = picks; prices = prices; spelled = spelled; picks_are = persons; prices_are = objects; lines_are = refl }) (numbered price_line (0 + length b.front) pad) le
     (λ ls of more e g.
-    let own : List Pick = of.0 in
-    let owns : List ℤ = of.1 in
-    let both : length own ≡ length picks = of.3 ∙ sym persons in
-    let behind : numbered price_line 0 owns ≡ numbered price_line 0 b.front ++ more = same_rest Pick assign_line 0 own picks (numbered price_line 0 owns) (numbered price_line 0 b.front ++ more) both (sym of.5 ∙ e ∙ append_assoc (numbered assign_line 0 picks) (numbered price_line 0 b.front) more) in
-    let x = next_of ℤ price_line IsPrice 0 b.front owns [] more of.2.within.fair (omega (arith, of.4)) (append-nil (numbered price_line 0 owns) ∙ behind) in
+    let own : List Pick = of.choice in
+    let owns : List ℤ = of.prices in
+    let both : length own ≡ length picks = of.picks_are ∙ sym persons in
+    let behind : numbered price_line 0 owns ≡ numbered price_line 0 b.front ++ more = same_rest Pick assign_line 0 own picks (numbered price_line 0 owns) (numbered price_line 0 b.front ++ more) both (sym of.lines_are ∙ e ∙ append_assoc (numbered assign_line 0 picks) (numbered price_line 0 b.front) more) in
+    let x = next_of ℤ price_line IsPrice 0 b.front owns [] more of.spelled.within.fair (omega (arith, of.prices_are)) (append-nil (numbered price_line 0 owns) ∙ behind) in
     let y : GoesOn (price_line (0 + length b.front) x.value ∷ x.others) b.rest = subst (λ (m : List (List ℕ)). GoesOn m b.rest) x.is g in
     let z : 0 + length b.front ≡ k = omega arith in
     b.none x.value y.0 x.right (y.1 ∙ ap (λ (m : ℕ). price_line m x.value ++ y.0) z)) in
@@ -138,14 +138,14 @@ bad_end f n m r picks r2 prices rest h run run2 some_rest =
     let lines : AreLines front = lines_append (numbered assign_line 0 picks) (numbered price_line 0 prices) (picks_lines (objects_in f) picks (objects_few f) (omega arith) run.all) (prices_lines prices (omega arith) run2.all) in
     let count : length front ≡ n + m = length-append (numbered assign_line 0 picks) (numbered price_line 0 prices) ∙ omega (arith, length_numbered assign_line 0 picks, length_numbered price_line 0 prices) in
     let bad : IsFirstBadOf (ChoiceLines f n m) r (n + m) =
-    bad_of (ChoiceLines f n m) front r rest (n + m) lines text (sym count) (choice_lines picks prices) (picks, prices, spelled, persons, objects, refl) [] (sym (append-nil front))
+    bad_of (ChoiceLines f n m) front r rest (n + m) lines text (sym count) (choice_lines picks prices) (record { choice = picks; prices = prices; spelled = spelled; picks_are = persons; prices_are = objects; lines_are = refl }) [] (sym (append-nil front))
     (λ ls of more e g.
-    let own : List Pick = of.0 in
-    let owns : List ℤ = of.1 in
-    let both : length own ≡ length picks = of.3 ∙ sym persons in
-    let both2 : length owns ≡ length prices = of.4 ∙ sym objects in
+    let own : List Pick = of.choice in
+    let owns : List ℤ = of.prices in
+    let both : length own ≡ length picks = of.picks_are ∙ sym persons in
+    let both2 : length owns ≡ length prices = of.prices_are ∙ sym objects in
     let behind : numbered price_line 0 owns ++ [] ≡ numbered price_line 0 prices ++ more =
-    append-nil (numbered price_line 0 owns) ∙ same_rest Pick assign_line 0 own picks (numbered price_line 0 owns) (numbered price_line 0 prices ++ more) both (sym of.5 ∙ e ∙ append_assoc (numbered assign_line 0 picks) (numbered price_line 0 prices) more) in
+    append-nil (numbered price_line 0 owns) ∙ same_rest Pick assign_line 0 own picks (numbered price_line 0 owns) (numbered price_line 0 prices ++ more) both (sym of.lines_are ∙ e ∙ append_assoc (numbered assign_line 0 picks) (numbered price_line 0 prices) more) in
     let none : [] ≡ more = same_rest ℤ price_line 0 owns prices [] more both2 behind in
     some_rest (subst (λ (m : List (List ℕ)). GoesOn m rest) (sym none) g)) in
     (n + m, omega arith, bad)
@@ -184,8 +184,8 @@ nothing_more choice prices picks owns more same len others =
 
 -- such lines that begin others are those of the same picks and prices, and no line is left
 pub choice_once : (f : Form) (choice : List Pick) (prices : List ℤ) (picks : List Pick) (owns : List ℤ) (more : List (List ℕ)) → IsChoiceIn f choice prices → IsChoiceIn f picks owns → length choice ≡ length picks → length prices ≡ length owns → choice_lines choice prices ++ more ≡ choice_lines picks owns
-    → (choice ≡ picks) × (prices ≡ owns) × (more ≡ [])
+    → AreSameLists choice prices picks owns more
 choice_once f choice prices picks owns more s t same len others =
     let none = nothing_more choice prices picks owns more same len others in
     let both = same_choice f choice prices picks owns s t same len (sym (append-nil (choice_lines choice prices)) ∙ ap (λ (m : List (List ℕ)). choice_lines choice prices ++ m) (sym none) ∙ others) in
-    (both.0, both.1, none)
+    record { first = both.0; second = both.1; none = none }

@@ -154,12 +154,12 @@ version_of (Bracket reason lower cost choice prices) = choice_version choice pri
 pub usual_form : (c : CertParts) → IsSpelled c → form_of c ≡ Usual (version_of c)
 usual_form (Optimal cost choice prices) s = usual_sizes (length choice) (length prices) s.1.most s.1.few
 usual_form (Infeasible persons objects) s = usual_names persons objects s
-usual_form (Bracket reason lower cost choice prices) s = usual_sizes (length choice) (length prices) s.2.most s.2.few
+usual_form (Bracket reason lower cost choice prices) s = usual_sizes (length choice) (length prices) s.choice.most s.choice.few
 
 spelled_usually : (c : CertParts) → IsSpelled c → IsSpelledIn (Usual (version_of c)) c
 spelled_usually (Optimal cost choice prices) s = (s.0, choice_in choice prices s.1)
 spelled_usually (Infeasible persons objects) s = names_in persons objects s
-spelled_usually (Bracket reason lower cost choice prices) s = (s.0, s.1, choice_in choice prices s.2)
+spelled_usually (Bracket reason lower cost choice prices) s = record { lower_fits = s.lower_fits; cost_fits = s.cost_fits; choice = choice_in choice prices s.choice }
 
 pub spelled_in : (c : CertParts) → IsSpelled c → IsSpelledIn (form_of c) c
 spelled_in c s = subst (λ (f : Form). IsSpelledIn f c) (sym (usual_form c s)) (spelled_usually c s)
@@ -167,12 +167,12 @@ spelled_in c s = subst (λ (f : Form). IsSpelledIn f c) (sym (usual_form c s)) (
 pub spelled_from : (v : Version) (c : CertParts) → IsSpelledIn (Usual v) c → IsSpelled c
 spelled_from v (Optimal cost choice prices) s = (s.0, choice_from v choice prices s.1)
 spelled_from v (Infeasible persons objects) s = names_from v persons objects s
-spelled_from v (Bracket reason lower cost choice prices) s = (s.0, s.1, choice_from v choice prices s.2)
+spelled_from v (Bracket reason lower cost choice prices) s = record { lower_fits = s.lower_fits; cost_fits = s.cost_fits; choice = choice_from v choice prices s.choice }
 
 version_from : (v : Version) (c : CertParts) → IsSpelledIn (Usual v) c → version_of c ≡ v
 version_from v (Optimal cost choice prices) s = sized_as v (length choice) (length prices) s.1.sizes
 version_from v (Infeasible persons objects) s = named_as v persons objects s
-version_from v (Bracket reason lower cost choice prices) s = sized_as v (length choice) (length prices) s.2.sizes
+version_from v (Bracket reason lower cost choice prices) s = sized_as v (length choice) (length prices) s.choice.sizes
 
 pub form_from : (v : Version) (c : CertParts) → IsSpelledIn (Usual v) c → form_of c ≡ Usual v
 form_from v c s = usual_form c (spelled_from v c s) ∙ ap (λ (w : Version). Usual w) (version_from v c s)
@@ -182,12 +182,12 @@ form_from v c s = usual_form c (spelled_from v c s) ∙ ap (λ (w : Version). Us
 pub large_in_range : (c : CertParts) → IsSpelledIn Large c → IsInRange c
 large_in_range (Optimal cost choice prices) s = (s.0, s.1.within)
 large_in_range (Infeasible persons objects) s = s.within
-large_in_range (Bracket reason lower cost choice prices) s = (s.0, s.1, s.2.within)
+large_in_range (Bracket reason lower cost choice prices) s = record { lower_fits = s.lower_fits; cost_fits = s.cost_fits; choice = s.choice.within }
 
 pub range_is_large : (c : CertParts) → IsInRange c → IsSpelledIn Large c
 range_is_large (Optimal cost choice prices) s = (s.0, record { within = s.1; sizes = (s.1.enough, s.1.few) })
 range_is_large (Infeasible persons objects) s = record { within = s; some = omega arith; last = λ some. behind_some 0 4194304 objects some s.objects_rise }
-range_is_large (Bracket reason lower cost choice prices) s = (s.0, s.1, record { within = s.2; sizes = (s.2.enough, s.2.few) })
+range_is_large (Bracket reason lower cost choice prices) s = record { lower_fits = s.lower_fits; cost_fits = s.cost_fits; choice = record { within = s.choice; sizes = (s.choice.enough, s.choice.few) } }
 
 -- ---- claims of problems
 

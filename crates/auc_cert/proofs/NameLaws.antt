@@ -15,7 +15,7 @@ use Rattle.auc_claim.specs.Spelled.{IsBelow}
 use Rattle.auc_cert.proofs.RunLaws.{numbers_apart, same_run, same_rest, goes_beyond}
 use Rattle.auc_claim.proofs.RisingLaws.{rises_append, rises_from_lower, rises_below_higher, next_rises, rises_room, behind_top, behind_push, counted, counted_rises, length_counted, are_indices}
 use Rattle.auc_cert.proofs.SizeLaws.{last_is_in, named_from, objects_above, objects_few, persons_few}
-use Rattle.auc_cert.proofs.TextLines.{AreLines, GoesOn, bad_of, numbers_lines, lines_append}
+use Rattle.auc_cert.proofs.TextLines.{AreLines, AreSameLists, GoesOn, bad_of, numbers_lines, lines_append}
 use Rattle.auc_cert.proofs.ChoiceLaws.{length_numbered, joined_append}
 use Rattle.auc_cert.proofs.WriteLaws.{numbered_append}
 
@@ -79,15 +79,15 @@ bad_person v m l r line h (k, at, b) =
     ap (λ (x : List (List ℕ)). x ++ numbered object_line 0 objects) (numbered_append person_line 0 b.numbers pad) ∙ append_assoc front (numbered person_line (0 + length b.numbers) pad) (numbered object_line 0 objects) in
     let place : k ≡ length front = sym (length_numbered person_line 0 b.numbers ∙ len) in
     let bad : IsFirstBadOf (NameLines v m l) r k =
-    bad_of (NameLines v m l) front r b.rest k (persons_are_lines b.numbers (wide (persons_in v) b.numbers (persons_few v) b.run.rises)) b.run.run.text place (name_lines persons objects) (persons, objects, named, many, all, refl) behind le
+    bad_of (NameLines v m l) front r b.rest k (persons_are_lines b.numbers (wide (persons_in v) b.numbers (persons_few v) b.run.rises)) b.run.run.text place (name_lines persons objects) (record { persons = persons; objects = objects; named = named; persons_are = many; objects_are = all; lines_are = refl }) behind le
     (λ ls of more e g.
-    let own : List ℕ = of.0 in
-    let known : List ℕ = of.1 in
-    let own_few : 0 + length own ≤ MOST_OBJECTS = omega (arith, few_rise (persons_in v) own of.2.within.persons_rise, persons_few v) in
-    let x = goes_beyond MOST_OBJECTS ℕ person_line (IsBelow MOST_OBJECTS) 0 b.numbers own (numbered object_line 0 known) more (numbers_apart (codes "person ")) (indices (persons_in v) b.numbers (persons_few v) b.run.rises) (indices (persons_in v) own (persons_few v) of.2.within.persons_rise) own_few (omega (arith, of.3)) (sym of.5 ∙ e) in
+    let own : List ℕ = of.persons in
+    let known : List ℕ = of.objects in
+    let own_few : 0 + length own ≤ MOST_OBJECTS = omega (arith, few_rise (persons_in v) own of.named.within.persons_rise, persons_few v) in
+    let x = goes_beyond MOST_OBJECTS ℕ person_line (IsBelow MOST_OBJECTS) 0 b.numbers own (numbered object_line 0 known) more (numbers_apart (codes "person ")) (indices (persons_in v) b.numbers (persons_few v) b.run.rises) (indices (persons_in v) own (persons_few v) of.named.within.persons_rise) own_few (omega (arith, of.persons_are)) (sym of.lines_are ∙ e) in
     let y : GoesOn (person_line (0 + length b.numbers) x.value ∷ x.others) b.rest = subst (λ (n : List (List ℕ)). GoesOn n b.rest) x.is g in
-    let bounds = next_rises 0 (persons_in v) b.numbers x.value x.behind (subst (Rises 0 (persons_in v)) x.split of.2.within.persons_rise) in
-    let room : x.value + (m - k) ≤ persons_in v = omega (arith, bounds.1, of.3, ap length x.split, length-append b.numbers (x.value ∷ x.behind)) in
+    let bounds = next_rises 0 (persons_in v) b.numbers x.value x.behind (subst (Rises 0 (persons_in v)) x.split of.named.within.persons_rise) in
+    let room : x.value + (m - k) ≤ persons_in v = omega (arith, bounds.1, of.persons_are, ap length x.split, length-append b.numbers (x.value ∷ x.behind)) in
     b.none x.value y.0 bounds.0 room (λ _. omega arith) y.1) in
     (k, at, bad)
 
@@ -115,22 +115,22 @@ bad_object v m l r persons r2 line h run (k, at, b) =
     ap (λ (x : List (List ℕ)). ps ++ x) (numbered_append object_line 0 b.numbers pad) ∙ sym (append_assoc ps os (numbered object_line (0 + length b.numbers) pad)) in
     let count : length (ps ++ os) ≡ m + k = length-append ps os ∙ omega (arith, length_numbered person_line 0 persons, length_numbered object_line 0 b.numbers) in
     let bad : IsFirstBadOf (NameLines v m l) r (m + k) =
-    bad_of (NameLines v m l) (ps ++ os) r b.rest (m + k) (lines_append ps os (persons_are_lines persons (wide (persons_in v) persons (persons_few v) run.rises)) (objects_are_lines b.numbers (wide (objects_in v) b.numbers (objects_few v) b.run.rises))) text (sym count) (name_lines persons objects) (persons, objects, named, many, all, refl)
+    bad_of (NameLines v m l) (ps ++ os) r b.rest (m + k) (lines_append ps os (persons_are_lines persons (wide (persons_in v) persons (persons_few v) run.rises)) (objects_are_lines b.numbers (wide (objects_in v) b.numbers (objects_few v) b.run.rises))) text (sym count) (name_lines persons objects) (record { persons = persons; objects = objects; named = named; persons_are = many; objects_are = all; lines_are = refl })
     (numbered object_line (0 + length b.numbers) pad) le
     (λ ls of more e g.
-    let own : List ℕ = of.0 in
-    let known : List ℕ = of.1 in
-    let both : length own ≡ length persons = of.3 ∙ sym many in
-    let known_rises : Rises 0 (objects_in v) known = of.2.within.objects_rise in
+    let own : List ℕ = of.persons in
+    let known : List ℕ = of.objects in
+    let both : length own ≡ length persons = of.persons_are ∙ sym many in
+    let known_rises : Rises 0 (objects_in v) known = of.named.within.objects_rise in
     let known_few : 0 + length known ≤ MOST_OBJECTS = omega (arith, few_rise (objects_in v) known known_rises, objects_few v) in
-    let behind : numbered object_line 0 known ≡ os ++ more = same_rest ℕ person_line 0 own persons (numbered object_line 0 known) (os ++ more) both (sym of.5 ∙ e ∙ append_assoc ps os more) in
-    let x = goes_beyond MOST_OBJECTS ℕ object_line (IsBelow MOST_OBJECTS) 0 b.numbers known [] more (numbers_apart (codes "object ")) (indices (objects_in v) b.numbers (objects_few v) b.run.rises) (indices (objects_in v) known (objects_few v) known_rises) known_few (omega (arith, of.4)) (append-nil (numbered object_line 0 known) ∙ behind) in
+    let behind : numbered object_line 0 known ≡ os ++ more = same_rest ℕ person_line 0 own persons (numbered object_line 0 known) (os ++ more) both (sym of.lines_are ∙ e ∙ append_assoc ps os more) in
+    let x = goes_beyond MOST_OBJECTS ℕ object_line (IsBelow MOST_OBJECTS) 0 b.numbers known [] more (numbers_apart (codes "object ")) (indices (objects_in v) b.numbers (objects_few v) b.run.rises) (indices (objects_in v) known (objects_few v) known_rises) known_few (omega (arith, of.objects_are)) (append-nil (numbered object_line 0 known) ∙ behind) in
     let y : GoesOn (object_line (0 + length b.numbers) x.value ∷ x.others) b.rest = subst (λ (n : List (List ℕ)). GoesOn n b.rest) x.is g in
     let bounds = next_rises 0 (objects_in v) b.numbers x.value x.behind (subst (Rises 0 (objects_in v)) x.split known_rises) in
-    let room : x.value + (l - k) ≤ objects_in v = omega (arith, bounds.1, of.4, ap length x.split, length-append b.numbers (x.value ∷ x.behind)) in
+    let room : x.value + (l - k) ≤ objects_in v = omega (arith, bounds.1, of.objects_are, ap length x.split, length-append b.numbers (x.value ∷ x.behind)) in
     let reached : k + 1 ≡ l → least_last v ≤ x.value = λ last.
-    let none : length x.behind ≡ 0 = omega (arith, of.4, ap length x.split, length-append b.numbers (x.value ∷ x.behind)) in
-    let there : least_last v < least_behind 0 known = of.2.last (omega (arith, of.4)) in
+    let none : length x.behind ≡ 0 = omega (arith, of.objects_are, ap length x.split, length-append b.numbers (x.value ∷ x.behind)) in
+    let there : least_last v < least_behind 0 known = of.named.last (omega (arith, of.objects_are)) in
     let goes : least_behind 0 known ≡ x.value + 1 = ap (least_behind 0) x.split ∙ last_value b.numbers x.value x.behind none in
     omega (arith, there, goes) in
     b.none x.value y.0 bounds.0 room reached y.1) in
@@ -147,14 +147,14 @@ bad_name_end v m l r persons r2 objects rest h run run2 last some_rest =
     run.run.text ∙ ap (λ (x : List ℕ). joined ps ++ x) run2.run.text ∙ sym (append_assoc (joined ps) (joined os) rest) ∙ ap (λ (x : List ℕ). x ++ rest) (sym (joined_append ps os)) in
     let count : length (ps ++ os) ≡ m + l = length-append ps os ∙ omega (arith, length_numbered person_line 0 persons, length_numbered object_line 0 objects) in
     let bad : IsFirstBadOf (NameLines v m l) r (m + l) =
-    bad_of (NameLines v m l) (ps ++ os) r rest (m + l) (names_are_lines v persons objects named) text (sym count) (name_lines persons objects) (persons, objects, named, many, all, refl) [] (sym (append-nil (ps ++ os)))
+    bad_of (NameLines v m l) (ps ++ os) r rest (m + l) (names_are_lines v persons objects named) text (sym count) (name_lines persons objects) (record { persons = persons; objects = objects; named = named; persons_are = many; objects_are = all; lines_are = refl }) [] (sym (append-nil (ps ++ os)))
     (λ ls of more e g.
-    let own : List ℕ = of.0 in
-    let known : List ℕ = of.1 in
-    let both : length own ≡ length persons = of.3 ∙ sym many in
-    let both2 : length known ≡ length objects = of.4 ∙ sym all in
+    let own : List ℕ = of.persons in
+    let known : List ℕ = of.objects in
+    let both : length own ≡ length persons = of.persons_are ∙ sym many in
+    let both2 : length known ≡ length objects = of.objects_are ∙ sym all in
     let behind : numbered object_line 0 known ++ [] ≡ os ++ more =
-    append-nil (numbered object_line 0 known) ∙ same_rest ℕ person_line 0 own persons (numbered object_line 0 known) (os ++ more) both (sym of.5 ∙ e ∙ append_assoc ps os more) in
+    append-nil (numbered object_line 0 known) ∙ same_rest ℕ person_line 0 own persons (numbered object_line 0 known) (os ++ more) both (sym of.lines_are ∙ e ∙ append_assoc ps os more) in
     let none : [] ≡ more = same_rest ℕ object_line 0 known objects [] more both2 behind in
     some_rest (subst (λ (n : List (List ℕ)). GoesOn n rest) (sym none) g)) in
     (m + l, omega arith, bad)
@@ -192,8 +192,8 @@ no_more_names persons objects own known more same both others =
 
 -- such lines that begin others name the same persons and objects, and no line is left
 pub names_once : (v : Form) (persons objects own known : List ℕ) (more : List (List ℕ)) → AreNamedIn v persons objects → AreNamedIn v own known → length persons ≡ length own → length objects ≡ length known → name_lines persons objects ++ more ≡ name_lines own known
-    → (persons ≡ own) × (objects ≡ known) × (more ≡ [])
+    → AreSameLists persons objects own known more
 names_once v persons objects own known more s t same both others =
     let none = no_more_names persons objects own known more same both others in
     let all = same_names v persons objects own known s t same both (sym (append-nil (name_lines persons objects)) ∙ ap (λ (m : List (List ℕ)). name_lines persons objects ++ m) (sym none) ∙ others) in
-    (all.0, all.1, none)
+    record { first = all.0; second = all.1; none = none }

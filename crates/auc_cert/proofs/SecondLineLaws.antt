@@ -112,11 +112,11 @@ objects_takes (Usual First) n bytes m rest e =
     (ap (λ (x : ℕ × List ℕ). x.1) pair, sym (ap (λ (x : ℕ × List ℕ). x.0) pair))
 objects_takes (Usual Second) n bytes m rest e =
     let a = bind_some (field_at [] (pos (n + 1)) (pos 20000) 32 bytes) (λ x. Some (unsigned_abs x.0, x.1)) (m, rest) e in
-    let t = number_taken (n + 1) 20000 bytes a.0.0 a.0.1 m rest a.1 (some_is (unsigned_abs a.0.0, a.0.1) (m, rest) a.2) in
+    let t = number_taken (n + 1) 20000 bytes a.value.0 a.value.1 m rest a.gave (some_is (unsigned_abs a.value.0, a.value.1) (m, rest) a.goes_on) in
     (t.text, (omega (arith, t.low), t.high))
 objects_takes Large n bytes m rest e =
     let a = bind_some (field_at [] (pos n) (pos MOST_OBJECTS) 32 bytes) (λ x. Some (unsigned_abs x.0, x.1)) (m, rest) e in
-    let t = number_taken n MOST_OBJECTS bytes a.0.0 a.0.1 m rest a.1 (some_is (unsigned_abs a.0.0, a.0.1) (m, rest) a.2) in
+    let t = number_taken n MOST_OBJECTS bytes a.value.0 a.value.1 m rest a.gave (some_is (unsigned_abs a.value.0, a.value.1) (m, rest) a.goes_on) in
     (t.text, (t.low, t.high))
 
 -- ---- optimal
@@ -148,17 +148,17 @@ optimal_takes : (v : Form) (bytes : List ℕ) (x : SecondLine × List ℕ) → o
 unfolding optimal_at
 optimal_takes v bytes x e =
     let a = bind_some (field_at (codes "optimal ") (pos 1) (pos (persons_in v)) 32 bytes) _ x e in
-    let o = bind_some (objects_at v (unsigned_abs a.0.0) a.0.1) _ x a.2 in
-    let b = bind_some (long_at 10 o.0.1) _ x o.2 in
-    let f = count_takes v (codes "optimal ") bytes a.0.0 a.0.1 a.1 in
-    let objects = objects_takes v (unsigned_abs a.0.0) a.0.1 o.0.0 o.0.1 o.1 in
-    let g = long_takes 10 o.0.1 b.0.0 b.0.1 b.1 in
-    let n : ℕ = unsigned_abs a.0.0 in
-    let read : IsRead v bytes (Optimal n o.0.0 b.0.0, b.0.1) = (
-      f.text ∙ ap (λ (r : List ℕ). (codes "optimal " ++ decimal n) ++ 32 ∷ r) (objects.0 ∙ ap (λ (r : List ℕ). objects_word v o.0.0 ++ r) g.0) ∙ sym (optimal_text v n o.0.0 b.0.0 b.0.1),
+    let o = bind_some (objects_at v (unsigned_abs a.value.0) a.value.1) _ x a.goes_on in
+    let b = bind_some (long_at 10 o.value.1) _ x o.goes_on in
+    let f = count_takes v (codes "optimal ") bytes a.value.0 a.value.1 a.gave in
+    let objects = objects_takes v (unsigned_abs a.value.0) a.value.1 o.value.0 o.value.1 o.gave in
+    let g = long_takes 10 o.value.1 b.value.0 b.value.1 b.gave in
+    let n : ℕ = unsigned_abs a.value.0 in
+    let read : IsRead v bytes (Optimal n o.value.0 b.value.0, b.value.1) = (
+      f.text ∙ ap (λ (r : List ℕ). (codes "optimal " ++ decimal n) ++ 32 ∷ r) (objects.0 ∙ ap (λ (r : List ℕ). objects_word v o.value.0 ++ r) g.0) ∙ sym (optimal_text v n o.value.0 b.value.0 b.value.1),
       (record { count = f.is; beside = objects.1 }, g.1),
     ) in
-    subst (IsRead v bytes) (some_is (Optimal n o.0.0 b.0.0, b.0.1) x b.2) read
+    subst (IsRead v bytes) (some_is (Optimal n o.value.0 b.value.0, b.value.1) x b.goes_on) read
 
 -- ---- infeasible
 
@@ -183,19 +183,19 @@ infeasible_takes : (v : Form) (bytes : List ℕ) (x : SecondLine × List ℕ) �
 unfolding infeasible_at
 infeasible_takes v bytes x e =
     let a = bind_some (field_at (codes "infeasible ") (pos 1) (pos (persons_in v)) 32 bytes) _ x e in
-    let b = bind_some (field_at [] (pos (least_named v)) (pos (persons_in v)) 10 a.0.1) _ x a.2 in
-    let f = count_takes v (codes "infeasible ") bytes a.0.0 a.0.1 a.1 in
-    let g = field_takes [] (pos (least_named v)) (pos (persons_in v)) 10 a.0.1 b.0.0 b.0.1 b.1 in
-    let m : ℕ = unsigned_abs a.0.0 in
-    let l : ℕ = unsigned_abs b.0.0 in
-    let low : pos (least_named v) ≤ℤ b.0.0 = g.low in
-    let high : b.0.0 ≤ℤ pos (persons_in v) = g.high in
-    let text : a.0.1 ≡ decimal l ++ 10 ∷ b.0.1 = g.text ∙ ap (λ (y : ℤ). signed_decimal y ++ 10 ∷ b.0.1) (is_abs b.0.0 (omega (arith, ints))) in
-    let read : IsRead v bytes (Infeasible m l, b.0.1) = (
-      f.text ∙ ap (λ (r : List ℕ). (codes "infeasible " ++ decimal m) ++ 32 ∷ r) text ∙ sym (two_fields (codes "infeasible ") (decimal m) (decimal l) b.0.1),
+    let b = bind_some (field_at [] (pos (least_named v)) (pos (persons_in v)) 10 a.value.1) _ x a.goes_on in
+    let f = count_takes v (codes "infeasible ") bytes a.value.0 a.value.1 a.gave in
+    let g = field_takes [] (pos (least_named v)) (pos (persons_in v)) 10 a.value.1 b.value.0 b.value.1 b.gave in
+    let m : ℕ = unsigned_abs a.value.0 in
+    let l : ℕ = unsigned_abs b.value.0 in
+    let low : pos (least_named v) ≤ℤ b.value.0 = g.low in
+    let high : b.value.0 ≤ℤ pos (persons_in v) = g.high in
+    let text : a.value.1 ≡ decimal l ++ 10 ∷ b.value.1 = g.text ∙ ap (λ (y : ℤ). signed_decimal y ++ 10 ∷ b.value.1) (is_abs b.value.0 (omega (arith, ints))) in
+    let read : IsRead v bytes (Infeasible m l, b.value.1) = (
+      f.text ∙ ap (λ (r : List ℕ). (codes "infeasible " ++ decimal m) ++ 32 ∷ r) text ∙ sym (two_fields (codes "infeasible ") (decimal m) (decimal l) b.value.1),
       record { some = f.is.some; most = f.is.most; some_objects = omega (arith, ints); few = omega (arith, ints) },
     ) in
-    subst (IsRead v bytes) (some_is (Infeasible m l, b.0.1) x b.2) read
+    subst (IsRead v bytes) (some_is (Infeasible m l, b.value.1) x b.goes_on) read
 
 -- ---- brackets
 
@@ -268,28 +268,28 @@ bracket_takes : (v : Form) (bytes : List ℕ) (x : SecondLine × List ℕ) → b
 unfolding bracket_at
 bracket_takes v bytes x e =
     let a = bind_some (after (codes "bracket ") bytes) _ x e in
-    let b = bind_some (word_at 32 a.0) _ x a.2 in
-    let c = bind_some (reason_of b.0.0) _ x b.2 in
-    let d = bind_some (field_at [] (pos 1) (pos (persons_in v)) 32 b.0.1) _ x c.2 in
-    let o = bind_some (objects_at v (unsigned_abs d.0.0) d.0.1) _ x d.2 in
-    let f = bind_some (long_at 32 o.0.1) _ x o.2 in
-    let g = bind_some (long_at 10 f.0.1) _ x f.2 in
-    let count = count_takes v [] b.0.1 d.0.0 d.0.1 d.1 in
-    let objects = objects_takes v (unsigned_abs d.0.0) d.0.1 o.0.0 o.0.1 o.1 in
-    let low = long_takes 32 o.0.1 f.0.0 f.0.1 f.1 in
-    let last = long_takes 10 f.0.1 g.0.0 g.0.1 g.1 in
-    let n : ℕ = unsigned_abs d.0.0 in
-    let m : ℕ = o.0.0 in
-    let behind : d.0.1 ≡ objects_word v m ++ (signed_decimal f.0.0 ++ 32 ∷ (signed_decimal g.0.0 ++ 10 ∷ g.0.1)) = objects.0 ∙ ap (λ (r : List ℕ). objects_word v m ++ r) (low.0 ∙ ap (λ (r : List ℕ). signed_decimal f.0.0 ++ 32 ∷ r) last.0) in
-    let text : bytes ≡ codes "bracket " ++ (reason_word c.0 ++ 32 ∷ (decimal n ++ 32 ∷ (objects_word v m ++ (signed_decimal f.0.0 ++ 32 ∷ (signed_decimal g.0.0 ++ 10 ∷ g.0.1))))) =
-    after_takes (codes "bracket ") bytes a.0 a.1
-    ∙ ap (λ (r : List ℕ). codes "bracket " ++ r) (word_takes 32 a.0 b.0.0 b.0.1 b.1 ∙ ap (λ (w : List ℕ). w ++ 32 ∷ b.0.1) (reason_takes b.0.0 c.0 c.1)
-    ∙ ap (λ (r : List ℕ). reason_word c.0 ++ 32 ∷ r) (count.text ∙ ap (λ (r : List ℕ). decimal n ++ 32 ∷ r) behind)) in
-    let read : IsRead v bytes (Bracket c.0 n m f.0.0 g.0.0, g.0.1) = (
-      text ∙ sym (bracket_text v c.0 n m f.0.0 g.0.0 g.0.1),
-      (record { count = count.is; beside = objects.1 }, low.1, last.1),
+    let b = bind_some (word_at 32 a.value) _ x a.goes_on in
+    let c = bind_some (reason_of b.value.0) _ x b.goes_on in
+    let d = bind_some (field_at [] (pos 1) (pos (persons_in v)) 32 b.value.1) _ x c.goes_on in
+    let o = bind_some (objects_at v (unsigned_abs d.value.0) d.value.1) _ x d.goes_on in
+    let f = bind_some (long_at 32 o.value.1) _ x o.goes_on in
+    let g = bind_some (long_at 10 f.value.1) _ x f.goes_on in
+    let count = count_takes v [] b.value.1 d.value.0 d.value.1 d.gave in
+    let objects = objects_takes v (unsigned_abs d.value.0) d.value.1 o.value.0 o.value.1 o.gave in
+    let low = long_takes 32 o.value.1 f.value.0 f.value.1 f.gave in
+    let last = long_takes 10 f.value.1 g.value.0 g.value.1 g.gave in
+    let n : ℕ = unsigned_abs d.value.0 in
+    let m : ℕ = o.value.0 in
+    let behind : d.value.1 ≡ objects_word v m ++ (signed_decimal f.value.0 ++ 32 ∷ (signed_decimal g.value.0 ++ 10 ∷ g.value.1)) = objects.0 ∙ ap (λ (r : List ℕ). objects_word v m ++ r) (low.0 ∙ ap (λ (r : List ℕ). signed_decimal f.value.0 ++ 32 ∷ r) last.0) in
+    let text : bytes ≡ codes "bracket " ++ (reason_word c.value ++ 32 ∷ (decimal n ++ 32 ∷ (objects_word v m ++ (signed_decimal f.value.0 ++ 32 ∷ (signed_decimal g.value.0 ++ 10 ∷ g.value.1))))) =
+    after_takes (codes "bracket ") bytes a.value a.gave
+    ∙ ap (λ (r : List ℕ). codes "bracket " ++ r) (word_takes 32 a.value b.value.0 b.value.1 b.gave ∙ ap (λ (w : List ℕ). w ++ 32 ∷ b.value.1) (reason_takes b.value.0 c.value c.gave)
+    ∙ ap (λ (r : List ℕ). reason_word c.value ++ 32 ∷ r) (count.text ∙ ap (λ (r : List ℕ). decimal n ++ 32 ∷ r) behind)) in
+    let read : IsRead v bytes (Bracket c.value n m f.value.0 g.value.0, g.value.1) = (
+      text ∙ sym (bracket_text v c.value n m f.value.0 g.value.0 g.value.1),
+      record { sizes = record { count = count.is; beside = objects.1 }; lower_fits = low.1; cost_fits = last.1 },
     ) in
-    subst (IsRead v bytes) (some_is (Bracket c.0 n m f.0.0 g.0.0, g.0.1) x g.2) read
+    subst (IsRead v bytes) (some_is (Bracket c.value n m f.value.0 g.value.0, g.value.1) x g.goes_on) read
 
 -- ---- of whichever kind
 
@@ -329,7 +329,7 @@ pub second_again : (v : Form) (second : SecondLine) (rest : List ℕ) → IsSeco
 unfolding second_line_at
 second_again v (Optimal n m cost) rest h = rw (optimal_again v n m cost rest h.0 h.1) refl
 second_again v (Infeasible persons objects) rest h = rw (not_optimal v persons objects rest, infeasible_again v persons objects rest h) refl
-second_again v (Bracket reason n m lower cost) rest h = rw (nor_optimal v v reason n m lower cost rest, nor_infeasible v v reason n m lower cost rest, bracket_again v reason n m lower cost rest h.0 h.1 h.2) refl
+second_again v (Bracket reason n m lower cost) rest h = rw (nor_optimal v v reason n m lower cost rest, nor_infeasible v v reason n m lower cost rest, bracket_again v reason n m lower cost rest h.sizes h.lower_fits h.cost_fits) refl
 
 -- no two second lines of a version look the same
 pub second_once : (v : Form) (first second : SecondLine) → IsSecondLine v first → IsSecondLine v second → second_line v first ≡ second_line v second → first ≡ second
@@ -395,4 +395,4 @@ second_is_line v (Infeasible persons objects) h =
       text = refl;
       whole = and_number (codes "infeasible " ++ decimal persons) (pos objects) (and_then (codes "infeasible ") (decimal persons) (all_lack 10 (codes "infeasible ") refl) (digits (pos persons) (small_fits persons (omega arith)))) (small_fits objects (omega arith));
     }
-second_is_line v (Bracket reason n m lower cost) h = bracket_is_line v reason n m lower cost h.0 h.1 h.2
+second_is_line v (Bracket reason n m lower cost) h = bracket_is_line v reason n m lower cost h.sizes h.lower_fits h.cost_fits

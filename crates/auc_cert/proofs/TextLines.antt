@@ -73,14 +73,20 @@ goes_on rest (l ∷ ls) (m ∷ more) j e =
     let h : l ≡ m = cc in
     (joined ls, sym j ∙ ap (λ (x : List ℕ). x ++ joined ls) h)
 
-split_here : (front xs ls : List (List ℕ)) → take (suc (length front)) (front ++ xs) ≡ take (suc (length front)) ls → (more : List (List ℕ)) × (ls ≡ front ++ more) × (take 1 xs ≡ take 1 more)
-split_here [] xs ls e = (ls, refl, e)
+-- the lines begin with these, and then `many` of them are those of xs
+pub record GoOnAs (many : ℕ) (front xs ls : List (List ℕ)) : Type 0 where
+  pub more : List (List ℕ)
+  pub split : ls ≡ front ++ more
+  pub same : take many xs ≡ take many more
+
+split_here : (front xs ls : List (List ℕ)) → take (suc (length front)) (front ++ xs) ≡ take (suc (length front)) ls → GoOnAs 1 front xs ls
+split_here [] xs ls e = record { more = ls; split = refl; same = e }
 split_here (f ∷ front) xs [] e = absurd cc
 split_here (f ∷ front) xs (l ∷ ls) e =
     let rest : take (suc (length front)) (front ++ xs) ≡ take (suc (length front)) ls = cc in
     let h : f ≡ l = cc in
     let r = split_here front xs ls rest in
-    (r.0, ap (λ (x : List (List ℕ)). l ∷ x) r.1 ∙ ap (λ (x : List ℕ). x ∷ (front ++ r.0)) (sym h), r.2)
+    record { more = r.more; split = ap (λ (x : List (List ℕ)). l ∷ x) r.split ∙ ap (λ (x : List ℕ). x ∷ (front ++ r.more)) (sym h); same = r.same }
 
 -- The lines in front are those of some text of the kind, and none that begins with them goes on as the bytes do.
 pub bad_of : (kind : List (List ℕ) → Type 0) (front : List (List ℕ)) (bytes rest : List ℕ) (k : ℕ) → AreLines front → bytes ≡ joined front ++ rest → k ≡ length front
@@ -90,10 +96,18 @@ bad_of kind front bytes rest k lines text at whole of more is none =
     let le : lines_in bytes ≡ front ++ lines_in rest = ap lines_in text ∙ lines_in_front front rest lines in
     let n : ℕ = length front in
     let bad : IsFirstBadOf kind bytes n = record {
-      before = (whole, of, ap (take n) le ∙ take-append_seam front (lines_in rest) ∙ sym (take-append_seam front more) ∙ ap (take n) (sym is));
-      here = λ ls o e. let r = split_here front (lines_in rest) ls (ap (take (suc n)) (sym le) ∙ e) in none ls o r.0 r.1 (goes_on rest (lines_in rest) r.0 (joined_lines rest) r.2);
+      lines = whole;
+      are_text = of;
+      before = ap (take n) le ∙ take-append_seam front (lines_in rest) ∙ sym (take-append_seam front more) ∙ ap (take n) (sym is);
+      here = λ ls o e. let r = split_here front (lines_in rest) ls (ap (take (suc n)) (sym le) ∙ e) in none ls o r.more r.split (goes_on rest (lines_in rest) r.more (joined_lines rest) r.same);
     } in
     subst (IsFirstBadOf kind bytes) (sym at) bad
+
+-- two lists of lines are the same, made of the same two lists, and nothing is left behind them
+pub record AreSameLists {X Y : Type 0} (xs : List X) (ys : List Y) (own : List X) (owns : List Y) (more : List (List ℕ)) : Type 0 where
+  pub first : xs ≡ own
+  pub second : ys ≡ owns
+  pub none : more ≡ []
 
 -- ---- the lines of a certificate are lines
 

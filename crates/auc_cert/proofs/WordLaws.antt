@@ -19,8 +19,14 @@ use Rattle.auc_graph.proofs.InMemoryLaws.{true_from}
 
 -- ---- steps that gave a value
 
-pub bind_some : {A B : Type 0} (r : Option A) (f : A → Option B) (y : B) → (r >>= f) ≡ Some y → (x : A) × (r ≡ Some x) × (f x ≡ Some y)
-bind_some (Some x) f y e = (x, refl, e)
+-- the first step gave a value, from which the next one gave y
+pub record GaveInSteps {A B : Type 0} (r : Option A) (f : A → Option B) (y : B) : Type 0 where
+  pub value : A
+  pub gave : r ≡ Some value
+  pub goes_on : f value ≡ Some y
+
+pub bind_some : {A B : Type 0} (r : Option A) (f : A → Option B) (y : B) → (r >>= f) ≡ Some y → GaveInSteps r f y
+bind_some (Some x) f y e = record { value = x; gave = refl; goes_on = e }
 bind_some None f y e = absurd cc
 
 pub some_is : {A : Type 0} (x y : A) → ◌≡◌ {A = Option A} (Some x) (Some y) → x ≡ y
@@ -174,16 +180,16 @@ pub field_takes : (front : List ℕ) (least most : ℤ) (stop : ℕ) (bytes : Li
 unfolding field_at
 field_takes front least most stop bytes z rest e =
     let a = bind_some (after front bytes) (λ r. word_at stop r >>= λ w. (spelled least most w.0 >>= λ x. Some (x, w.1))) (z, rest) e in
-    let b = bind_some (word_at stop a.0) (λ w. spelled least most w.0 >>= λ x. Some (x, w.1)) (z, rest) a.2 in
-    let c = bind_some (spelled least most b.0.0) (λ x. Some (x, b.0.1)) (z, rest) b.2 in
-    let pair = some_is (c.0, b.0.1) (z, rest) c.2 in
-    let p : c.0 ≡ z = ap (λ (y : ℤ × List ℕ). y.0) pair in
-    let q : b.0.1 ≡ rest = ap (λ (y : ℤ × List ℕ). y.1) pair in
-    let s = spelled_takes least most b.0.0 c.0 c.1 in
-    let w : a.0 ≡ b.0.0 ++ stop ∷ b.0.1 = word_takes stop a.0 b.0.0 b.0.1 b.1 in
-    let is : b.0.0 ≡ signed_decimal z = s.text ∙ ap signed_decimal p in
+    let b = bind_some (word_at stop a.value) (λ w. spelled least most w.0 >>= λ x. Some (x, w.1)) (z, rest) a.goes_on in
+    let c = bind_some (spelled least most b.value.0) (λ x. Some (x, b.value.1)) (z, rest) b.goes_on in
+    let pair = some_is (c.value, b.value.1) (z, rest) c.goes_on in
+    let p : c.value ≡ z = ap (λ (y : ℤ × List ℕ). y.0) pair in
+    let q : b.value.1 ≡ rest = ap (λ (y : ℤ × List ℕ). y.1) pair in
+    let s = spelled_takes least most b.value.0 c.value c.gave in
+    let w : a.value ≡ b.value.0 ++ stop ∷ b.value.1 = word_takes stop a.value b.value.0 b.value.1 b.gave in
+    let is : b.value.0 ≡ signed_decimal z = s.text ∙ ap signed_decimal p in
     record {
-      text = after_takes front bytes a.0 a.1 ∙ ap (λ (r : List ℕ). front ++ r) (w ∙ ap (λ (r : List ℕ). b.0.0 ++ stop ∷ r) q ∙ ap (λ (r : List ℕ). r ++ stop ∷ rest) is) ∙ sym (append_assoc front (signed_decimal z) (stop ∷ rest));
+      text = after_takes front bytes a.value a.gave ∙ ap (λ (r : List ℕ). front ++ r) (w ∙ ap (λ (r : List ℕ). b.value.0 ++ stop ∷ r) q ∙ ap (λ (r : List ℕ). r ++ stop ∷ rest) is) ∙ sym (append_assoc front (signed_decimal z) (stop ∷ rest));
       low = subst (λ (x : ℤ). least ≤ℤ x) p s.low;
       high = subst (λ (x : ℤ). x ≤ℤ most) p s.high;
     }

@@ -7,7 +7,7 @@ use Rattle.auc_claim.specs.declared.version.Version.TheVariants.{First, Second}
 use Rattle.auc_claim.specs.declared.cert.CertParts.{CertParts}
 use Rattle.auc_claim.specs.declared.cert.CertParts.TheVariants.{Optimal, Infeasible, Bracket}
 use Rattle.auc_claim.specs.Spelled.{most_persons, most_objects, most_in, version_of_sizes, names_version, least_behind}
-use Rattle.auc_claim.specs.Spelled.{AreNamedWithin, IsChoiceWithin}
+use Rattle.auc_claim.specs.Spelled.{AreNamedWithin, IsBracketOf, IsChoiceWithin}
 use Rattle.auc_cert.specs.declared.form.Form.{Form}
 use Rattle.auc_cert.specs.declared.form.Form.TheVariants.{Usual, Large}
 
@@ -60,7 +60,7 @@ pub record AreNamedIn (form : Form) (persons objects : List ℕ) : Type 0 where
 abbrev pub IsSpelledIn : Form → CertParts → Type 0
 IsSpelledIn form (Optimal cost choice prices) = FitsSigned w64 cost × IsChoiceIn form choice prices
 IsSpelledIn form (Infeasible persons objects) = AreNamedIn form persons objects
-IsSpelledIn form (Bracket reason lower cost choice prices) = FitsSigned w64 lower × FitsSigned w64 cost × IsChoiceIn form choice prices
+IsSpelledIn form (Bracket reason lower cost choice prices) = IsBracketOf lower cost (IsChoiceIn form choice prices)
 
 -- the form in which a claim is written: version 3 has those that are too large for the others
 abbrev pub form_of_sizes : ℕ → ℕ → Form

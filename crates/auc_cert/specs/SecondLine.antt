@@ -1,5 +1,5 @@
 -- The second line of a certificate: the kind of the claim, and the number and the shape of the lines that follow.
-use Rattle.std.specs.Prelude.{ℕ, ◌≤◌, List, FitsSigned}
+use Rattle.std.specs.Prelude.{ℕ, ◌≤◌, List, ℤ, FitsSigned}
 use Rattle.std.specs.Int.{w64}
 use Rattle.auc_cert.specs.declared.form.Form.{Form}
 use Rattle.auc_cert.specs.declared.second_line.SecondLine.{SecondLine}
@@ -31,12 +31,17 @@ pub record AreCounts (form : Form) (persons objects : ℕ) : Type 0 where
   pub some_objects : least_named form ≤ objects
   pub few : objects ≤ persons_in form
 
+-- the numbers of the second line of a bracket
+pub record AreBracketNumbers (form : Form) (persons objects : ℕ) (lower cost : ℤ) : Type 0 where
+  pub sizes : AreSizes form persons objects
+  pub lower_fits : FitsSigned w64 lower
+  pub cost_fits : FitsSigned w64 cost
+
 -- the numbers of the line are in range
 abbrev pub IsSecondLine : Form → SecondLine → Type 0
 IsSecondLine form (Optimal persons objects cost) = AreSizes form persons objects × FitsSigned w64 cost
 IsSecondLine form (Infeasible persons objects) = AreCounts form persons objects
-IsSecondLine form (Bracket reason persons objects lower cost) =
-    AreSizes form persons objects × FitsSigned w64 lower × FitsSigned w64 cost
+IsSecondLine form (Bracket reason persons objects lower cost) = AreBracketNumbers form persons objects lower cost
 
 -- the lines that may follow the second line
 abbrev pub LinesBehind : Form → SecondLine → List (List ℕ) → Type 0

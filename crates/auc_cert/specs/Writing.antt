@@ -6,8 +6,12 @@ use Rattle.auc_cert.specs.declared.output.Part.{Part}
 use Rattle.auc_cert.specs.declared.output.Part.TheVariants.{Words, Space, LineEnd, Count, Place, Number}
 
 -- the writer has got a beginning of this text, and not all of it
-abbrev pub Begins : Option (List ℕ) → Option (List ℕ) → List ℕ → Type 0
-Begins old new text = (done : List ℕ) × (rest : List ℕ) × (0 < length rest) × (done ++ rest ≡ text) × Appends old new done
+pub record Begins (old new : Option (List ℕ)) (text : List ℕ) : Type 0 where
+  pub done : List ℕ
+  pub rest : List ℕ
+  pub some : 0 < length rest
+  pub whole : done ++ rest ≡ text
+  pub written : Appends old new done
 
 -- At Ok the writer has got exactly this text after what it had, and at Err a beginning of it.
 abbrev pub Writes : {X E : Type 0} → Result X E → Option (List ℕ) → Option (List ℕ) → List ℕ → Type 0

@@ -281,7 +281,7 @@ faultless_is_allowed p (Bracket reason lower cost choice prices) is in_range non
     record {
       assignment = is_assigned p cost choice prices choice_is;
       cost_is = sym choice_is.cost_is;
-      bound = λ other others. least.least (total_cost other) (dual_is_below p prices is.within choice_is.priced other others (not_negative prices in_range.2.fair));
+      bound = λ other others. least.least (total_cost other) (dual_is_below p prices is.within choice_is.priced other others (not_negative prices in_range.choice.fair));
     }
 
 -- the checker finds no fault in a Hall set

@@ -193,4 +193,4 @@ pub bracket_in_range : (p : Problem) (choice : List Arc) (prices : List ℤ) (lo
     → IsInRange (Bracket reason lower (total_cost choice) (map pick_of choice) prices)
 bracket_in_range p choice prices lower reason is given len fair priced least =
     let in_range = assignment_in_range p choice prices is given len fair in
-    (lower_fits p prices choice lower is.most is.within len fair priced given least, in_range.0, in_range.1)
+    record { lower_fits = lower_fits p prices choice lower is.most is.within len fair priced given least; cost_fits = in_range.0; choice = in_range.1 }

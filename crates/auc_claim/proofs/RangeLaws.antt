@@ -57,7 +57,7 @@ names_in_range persons objects is =
 pub spelled_in_range : (c : CertParts) → IsSpelled c → IsInRange c
 spelled_in_range (Optimal cost choice prices) is = (is.0, choice_in_range choice prices is.1)
 spelled_in_range (Infeasible persons objects) is = names_in_range persons objects is
-spelled_in_range (Bracket reason lower cost choice prices) is = (is.0, is.1, choice_in_range choice prices is.2)
+spelled_in_range (Bracket reason lower cost choice prices) is = record { lower_fits = is.lower_fits; cost_fits = is.cost_fits; choice = choice_in_range choice prices is.choice }
 
 -- ---- a claim in range without a fault, of a problem that has a text
 
@@ -116,4 +116,4 @@ module _ (p : Problem) (is : IsProblem p) (most : p.persons ≤ TEXT_PERSONS) (f
       names_spelled persons objects in_range (not_false (is_hall p persons objects) passed.0)
   faultless_is_spelled (Bracket reason lower cost choice prices) in_range none =
       let parts = none_in_front (choice_faults p cost choice prices) (bound_fault p lower prices ∷ []) none in
-      (in_range.0, in_range.1, choice_spelled cost choice prices in_range.2 parts.0)
+      record { lower_fits = in_range.lower_fits; cost_fits = in_range.cost_fits; choice = choice_spelled cost choice prices in_range.choice parts.0 }

@@ -5,7 +5,7 @@ use Rattle.auc_graph.specs.declared.limits.TheConstants.{MOST_OBJECTS, MOST_PERS
 use Rattle.auc_claim.specs.declared.lists.Pick.{Pick}
 use Rattle.auc_claim.specs.declared.cert.CertParts.{CertParts}
 use Rattle.auc_claim.specs.declared.cert.CertParts.TheVariants.{Optimal, Infeasible, Bracket}
-use Rattle.auc_claim.specs.Spelled.{AreNamedWithin, IsChoiceWithin}
+use Rattle.auc_claim.specs.Spelled.{AreNamedWithin, IsBracketOf, IsChoiceWithin}
 
 abbrev pub IsChoiceInRange : List Pick → List ℤ → Type 0
 IsChoiceInRange choice prices = IsChoiceWithin MOST_PERSONS MOST_OBJECTS MOST_OBJECTS choice prices
@@ -16,4 +16,4 @@ AreNamesInRange persons objects = AreNamedWithin MOST_PERSONS MOST_PERSONS MOST_
 abbrev pub IsInRange : CertParts → Type 0
 IsInRange (Optimal cost choice prices) = FitsSigned w64 cost × IsChoiceInRange choice prices
 IsInRange (Infeasible persons objects) = AreNamesInRange persons objects
-IsInRange (Bracket reason lower cost choice prices) = FitsSigned w64 lower × FitsSigned w64 cost × IsChoiceInRange choice prices
+IsInRange (Bracket reason lower cost choice prices) = IsBracketOf lower cost (IsChoiceInRange choice prices)

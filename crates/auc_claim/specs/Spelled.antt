@@ -73,8 +73,14 @@ IsChoice choice prices = IsChoiceWithin most_persons most_objects (most_in (choi
 abbrev pub AreNamed : List ℕ → List ℕ → Type 0
 AreNamed persons objects = AreNamedWithin most_named most_persons most_objects persons objects
 
+-- a bracket of two 64-bit numbers, whose picks and prices are such a choice
+pub record IsBracketOf (lower cost : ℤ) (Choice : Type 0) : Type 0 where
+  pub lower_fits : FitsSigned w64 lower
+  pub cost_fits : FitsSigned w64 cost
+  pub choice : Choice
+
 -- the certificate has a text: its numbers are in range, and its lists have the sizes and the order of the format
 abbrev pub IsSpelled : CertParts → Type 0
 IsSpelled (Optimal cost choice prices) = FitsSigned w64 cost × IsChoice choice prices
 IsSpelled (Infeasible persons objects) = AreNamed persons objects
-IsSpelled (Bracket reason lower cost choice prices) = FitsSigned w64 lower × FitsSigned w64 cost × IsChoice choice prices
+IsSpelled (Bracket reason lower cost choice prices) = IsBracketOf lower cost (IsChoice choice prices)

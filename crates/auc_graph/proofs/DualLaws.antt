@@ -104,20 +104,20 @@ none_left_over p prices choice within square len given j free =
 -- ---- how many objects have a price
 
 pub square_are_few : (p : Problem) (prices : List ℤ) → p.objects ≡ p.persons → length prices ≡ p.objects → AreFewPriced p prices
-square_are_few p prices square len = (
-  range_with_len 0 p.persons,
-  omega (arith, length-range_with_len 0 p.persons),
-  λ j other.
+square_are_few p prices square len = record {
+  priced = range_with_len 0 p.persons;
+  few = omega (arith, length-range_with_len 0 p.persons);
+  others = λ j other.
       elim (cases_lt j (length prices)) [
         | inl lt ↦
             let below : j < p.persons = omega (arith, lt, len, square) in
             absurd (other (j, omega (arith, below, length-range_with_len 0 p.persons), omega (arith, get_or-range_with_len 0 p.persons j j below)))
         | inr past ↦ get_or_past prices j (pos 0) past
-      ],
-)
+      ];
+}
 
 pub assigned_are_few : (p : Problem) (prices : List ℤ) (choice : List Arc) → IsAssignment p choice → IsNoPriceLeft prices choice → AreFewPriced p prices
-assigned_are_few p prices choice given left = (map object_of choice, omega (arith, length-map choice object_of, as_many p choice given), left)
+assigned_are_few p prices choice given left = record { priced = map object_of choice; few = omega (arith, length-map choice object_of, as_many p choice given); others = left }
 
 no_arc : Arc
 no_arc = record { cost = pos 0; person = 0; object = 0 }

@@ -16,11 +16,18 @@ pub true_from : (b : Bool) → T b → b ≡ true
 true_from true t = refl
 true_from false t = absurd t
 
-by_tests : (m p o c : Bool) (w x y z : ListFault) → cond m (Some w) (cond p (Some x) (cond o (Some y) (cond c None (Some z)))) ≡ None → (m ≡ false) × (p ≡ false) × (o ≡ false) × (c ≡ true)
+-- no test finds a fault: that of the number of arcs, of the person, of the object, and of the cost
+record HasNoFault (m p o c : Bool) : Type 0 where
+  few : m ≡ false
+  person : p ≡ false
+  object : o ≡ false
+  cost : c ≡ true
+
+by_tests : (m p o c : Bool) (w x y z : ListFault) → cond m (Some w) (cond p (Some x) (cond o (Some y) (cond c None (Some z)))) ≡ None → HasNoFault m p o c
 by_tests true p o c w x y z e = absurd cc
 by_tests false true o c w x y z e = absurd cc
 by_tests false false true c w x y z e = absurd cc
-by_tests false false false true w x y z e = (refl, refl, refl, refl)
+by_tests false false false true w x y z e = record { few = refl; person = refl; object = refl; cost = refl }
 by_tests false false false false w x y z e = absurd cc
 
 by_parts : (a b : Option ListFault) → option_or a b ≡ None → (a ≡ None) × (b ≡ None)
@@ -33,16 +40,16 @@ from_no n m e = grind (arith, nat_tests)
 no_from : (n m : ℕ) → m < n → nat_le n m ≡ false
 no_from n m e = grind (arith, nat_tests)
 
-tests_of : (n m place : ℕ) (a : Arc) → fault_at n m place a ≡ None → (nat_le MOST_ARCS place ≡ false) × (nat_le n a.person ≡ false) × (nat_le m a.object ≡ false) × ((int_le (neg_ℤ MOST_COST) a.cost && int_le a.cost MOST_COST) ≡ true)
+tests_of : (n m place : ℕ) (a : Arc) → fault_at n m place a ≡ None → HasNoFault (nat_le MOST_ARCS place) (nat_le n a.person) (nat_le m a.object) (int_le (neg_ℤ MOST_COST) a.cost && int_le a.cost MOST_COST)
 tests_of n m place a e = by_tests (nat_le MOST_ARCS place) (nat_le n a.person) (nat_le m a.object) (int_le (neg_ℤ MOST_COST) a.cost && int_le a.cost MOST_COST) ListFault.TooManyArcs (ListFault.Person place) (ListFault.Object place) (ListFault.Cost place) e
 
 arc_sound : (n m place : ℕ) (a : Arc) → fault_at n m place a ≡ None → IsWithin n m a
 arc_sound n m place a e =
     let t = tests_of n m place a e in
-    let c = and_parts (int_le (neg_ℤ MOST_COST) a.cost) (int_le a.cost MOST_COST) t.3 in
+    let c = and_parts (int_le (neg_ℤ MOST_COST) a.cost) (int_le a.cost MOST_COST) t.cost in
     record {
-      person = from_no n a.person t.1;
-      object = from_no m a.object t.2;
+      person = from_no n a.person t.person;
+      object = from_no m a.object t.object;
       low = le_z_yes (subst (λ (b : Bool). T b) (sym c.0) tt);
       high = le_z_yes (subst (λ (b : Bool). T b) (sym c.1) tt);
     }
@@ -67,7 +74,7 @@ pub room : (n m place : ℕ) (arcs : List Arc) → place ≤ MOST_ARCS → first
 room n m place [] le e = omega (arith, le)
 room n m place (a ∷ arcs) le e =
     let p = by_parts (fault_at n m place a) (first_fault n m (suc place) arcs) e in
-    let before : place < MOST_ARCS = from_no MOST_ARCS place (tests_of n m place a p.0).0 in
+    let before : place < MOST_ARCS = from_no MOST_ARCS place (tests_of n m place a p.0).few in
     let more : suc place + length arcs ≤ MOST_ARCS = room n m (suc place) arcs (omega (arith, before)) p.1 in
     omega (arith, more)
 

@@ -64,7 +64,7 @@ pub lower_fits : (p : Problem) (prices : List ℤ) (choice : List Arc) (lower : 
     → IsLower (scale_of p) (dual p prices) lower → FitsSigned w64 lower
 lower_fits p prices choice lower most within len fair priced given is =
     let above = not_negative prices fair in
-    let few : total prices ≤ℤ (pos (scale_of p) *ℤ pos (2 ^ 61)) = omega (arith, ints, few_below prices priced.0 fair priced.2, priced.1) in
+    let few : total prices ≤ℤ (pos (scale_of p) *ℤ pos (2 ^ 61)) = omega (arith, ints, few_below prices priced.priced fair priced.others, priced.few) in
     let low = lower_low p prices choice lower within len above given is (pos (2 ^ 61)) few in
     let high = lower_high p prices choice lower within len above given is in
     omega (arith, ints, low, high, most)

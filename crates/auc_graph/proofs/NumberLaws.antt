@@ -65,13 +65,19 @@ number_some token m h = some_from (split_sign token).0 (magnitude (split_sign to
 
 -- ---- the sign
 
-sign_is : (b : ℕ) (bytes : List ℕ) → ((split_sign (b ∷ bytes)).1 ≡ bytes) × (is_separator b ≡ false) × ((n : ℕ) → split_sign (b ∷ take n bytes) ≡ ((split_sign (b ∷ bytes)).0, take n bytes)) ⊎ ((split_sign (b ∷ bytes) ≡ (false, b ∷ bytes)) × ((more : List ℕ) → split_sign (b ∷ more) ≡ (false, b ∷ more)))
+-- the first byte is a sign, whatever is behind it
+record IsSign (b : ℕ) (bytes : List ℕ) : Type 0 where
+  behind : (split_sign (b ∷ bytes)).1 ≡ bytes
+  no_separator : is_separator b ≡ false
+  splits : (n : ℕ) → split_sign (b ∷ take n bytes) ≡ ((split_sign (b ∷ bytes)).0, take n bytes)
+
+sign_is : (b : ℕ) (bytes : List ℕ) → IsSign b bytes ⊎ ((split_sign (b ∷ bytes) ≡ (false, b ∷ bytes)) × ((more : List ℕ) → split_sign (b ∷ more) ≡ (false, b ∷ more)))
 unfolding split_sign is_separator
 sign_is b bytes =
     elim (cases_Bool (b == 43)) [
-      | inl plus ↦ inl (rw plus refl, grind (arith, nat_tests), λ n. rw plus refl)
+      | inl plus ↦ inl (record { behind = rw plus refl; no_separator = grind (arith, nat_tests); splits = λ n. rw plus refl })
       | inr no_plus ↦ elim (cases_Bool (b == 45)) [
-        | inl minus ↦ inl (rw (no_plus, minus) refl, grind (arith, nat_tests), λ n. rw (no_plus, minus) refl)
+        | inl minus ↦ inl (record { behind = rw (no_plus, minus) refl; no_separator = grind (arith, nat_tests); splits = λ n. rw (no_plus, minus) refl })
         | inr no_minus ↦ inr (rw (no_plus, no_minus) refl, λ more. rw (no_plus, no_minus) refl)
       ]
     ]
@@ -84,8 +90,8 @@ sign_len [] rest negative is =
 sign_len (b ∷ bytes) rest negative is =
     elim (sign_is b bytes) [
       | inl sign ↦
-          let rest_is : rest ≡ bytes = ap (λ x. x.1) is ∙ sign.0 in
-          let more : position_or_len is_separator (b ∷ bytes) ≡ suc (position_or_len is_separator bytes) = rw sign.1 (omega arith) in
+          let rest_is : rest ≡ bytes = ap (λ x. x.1) is ∙ sign.behind in
+          let more : position_or_len is_separator (b ∷ bytes) ≡ suc (position_or_len is_separator bytes) = rw sign.no_separator (omega arith) in
           omega (arith, more, ap length rest_is, ap (position_or_len is_separator) rest_is)
       | inr unsigned ↦
           let rest_is : rest ≡ b ∷ bytes = ap (λ x. x.1) is ∙ ap (λ x. x.1) unsigned.0 in
@@ -110,10 +116,10 @@ sign_text [] rest negative n is =
 sign_text (b ∷ bytes) rest negative n is =
     elim (sign_is b bytes) [
       | inl sign ↦
-          let rest_is : rest ≡ bytes = ap (λ x. x.1) is ∙ sign.0 in
+          let rest_is : rest ≡ bytes = ap (λ x. x.1) is ∙ sign.behind in
           let count : suc (length bytes) - length rest + n ≡ suc n = omega (arith, ap length rest_is) in
-          ap (λ (m : ℕ). split_sign (take m (b ∷ bytes))) count ∙ sign.2 n
-          ∙ ap (λ (t : List ℕ). ((split_sign (b ∷ bytes)).0, take n t)) (sym sign.0) ∙ sym (ap (λ x. (x.0, take n x.1)) is)
+          ap (λ (m : ℕ). split_sign (take m (b ∷ bytes))) count ∙ sign.splits n
+          ∙ ap (λ (t : List ℕ). ((split_sign (b ∷ bytes)).0, take n t)) (sym sign.behind) ∙ sym (ap (λ x. (x.0, take n x.1)) is)
       | inr unsigned ↦
           let rest_is : rest ≡ b ∷ bytes = ap (λ x. x.1) is ∙ ap (λ x. x.1) unsigned.0 in
           let count : suc (length bytes) - length rest + n ≡ n = omega (arith, ap length rest_is) in
@@ -133,7 +139,7 @@ sign_drop [] rest negative is =
 sign_drop (b ∷ bytes) rest negative is =
     elim (sign_is b bytes) [
       | inl sign ↦
-          let rest_is : rest ≡ bytes = ap (λ x. x.1) is ∙ sign.0 in
+          let rest_is : rest ≡ bytes = ap (λ x. x.1) is ∙ sign.behind in
           let count : suc (length bytes) - length rest ≡ 1 = omega (arith, ap length rest_is) in
           rest_is ∙ sym (ap (λ (m : ℕ). drop m (b ∷ bytes)) count)
       | inr unsigned ↦

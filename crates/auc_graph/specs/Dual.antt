@@ -70,8 +70,10 @@ abbrev pub AreNotNegative : List ℤ → Type 0
 AreNotNegative prices = (j : ℕ) → pos 0 ≤ℤ price_at prices j
 
 -- at most as many objects as there are persons have a price other than 0
-abbrev pub AreFewPriced : Problem → List ℤ → Type 0
-AreFewPriced p prices = (priced : List ℕ) × (length priced ≤ p.persons) × ((j : ℕ) → ¬ Contains priced j → price_at prices j ≡ pos 0)
+pub record AreFewPriced (p : Problem) (prices : List ℤ) : Type 0 where
+  pub priced : List ℕ
+  pub few : length priced ≤ p.persons
+  pub others : (j : ℕ) → ¬ Contains priced j → price_at prices j ≡ pos 0
 
 -- each object that the choice leaves unassigned has price 0
 abbrev pub IsNoPriceLeft : List ℤ → List Arc → Type 0

@@ -39,7 +39,7 @@ number_past out choice all i lt h told =
 flag_pushed : (queue : List Reached) (persons : ℕ) (flags : List Bool) (e : Reached) → AreReached queue persons flags → e.person < persons → ((m : ℕ) (f : Reached) → slice_get queue m ≡ Some f → f.person ≢ e.person) → AreReached (queue ++ e ∷ []) persons (set flags e.person true)
 flag_pushed queue persons flags e r lt new =
     let room : e.person < length flags = omega (arith, r.size) in
-    let unset : get_or flags e.person false ≡ false = elim (cases_Bool (get_or flags e.person false)) [ inl t ↦ (let x = r.only e.person t in absurd (new x.0 x.1 x.2 x.3)) | inr f ↦ f ] in
+    let unset : get_or flags e.person false ≡ false = elim (cases_Bool (get_or flags e.person false)) [ inl t ↦ (let x = r.only e.person t in absurd (new x.at x.by x.there x.person)) | inr f ↦ f ] in
     record {
       size = length-set flags e.person true ∙ r.size;
       all = λ m f h. elim (get_cases queue e m f h) [
@@ -47,10 +47,10 @@ flag_pushed queue persons flags e r lt new =
         | inr p ↦ subst (λ (q : Reached). WasSeen (set flags e.person true) q.person) p.1 (get_or-set_same flags e.person true false room)
       ];
       only = λ i h. elim (cases_eq i e.person) [
-        | inl same ↦ (length queue, e, get_pushed queue e, sym same)
+        | inl same ↦ record { at = length queue; by = e; there = get_pushed queue e; person = sym same }
         | inr n ↦
             let x = r.only i (sym (get_or-set_other flags e.person i true false n) ∙ h) in
-            (x.0, x.1, get_kept queue (e ∷ []) x.0 x.1 x.2, x.3)
+            record { at = x.at; by = x.by; there = get_kept queue (e ∷ []) x.at x.by x.there; person = x.person }
       ];
       count = omega (arith, count_set flags e.person room unset, r.count, length-append queue (e ∷ []));
     }
@@ -85,15 +85,15 @@ is_hall_set t queue seen flags known marks walked r =
       all = λ i j c k.
           let x = place_only 0 flags i c in
           let y = r.only x.0 x.2 in
-          let same : y.1.person ≡ i = omega (arith, x.1, y.3) in
-          let hers : Contains (row_of t y.1.person) k.0 = subst (λ (n : ℕ). Contains (row_of t n) k.0) (sym same) k.1 in
-          let was = All-contains (λ (a : RowArc). WasSeen seen a.object) (row_of t y.1.person) k.0 (walked y.0 y.1 (slice_get_within queue y.0 y.1 y.2) y.2) hers in
+          let same : y.by.person ≡ i = omega (arith, x.1, y.person) in
+          let hers : Contains (row_of t y.by.person) k.0 = subst (λ (n : ℕ). Contains (row_of t n) k.0) (sym same) k.1 in
+          let was = All-contains (λ (a : RowArc). WasSeen seen a.object) (row_of t y.by.person) k.0 (walked y.at y.by (slice_get_within queue y.at y.by y.there) y.there) hers in
           place_all 0 seen k.0.object was j (omega (arith, k.2));
       only = λ j c.
           let x = place_only 0 seen j c in
           let y = marks.behind x.0 x.2 in
-          let from = known y.0 y.1 y.2 y.3 in
-          (from.by.person, place_all 0 flags from.by.person (r.all y.1.parent from.by from.there) from.by.person (omega arith), (y.1.arc, from.own, omega (arith, x.1, y.4)));
+          let from = known y.at y.by y.there y.later in
+          (from.by.person, place_all 0 flags from.by.person (r.all y.by.parent from.by from.there) from.by.person (omega arith), (y.by.arc, from.own, omega (arith, x.1, y.object)));
       fewer = omega (arith, length-places 0 flags, length-places 0 seen, marks.count, r.count);
     }
 

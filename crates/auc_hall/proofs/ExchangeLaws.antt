@@ -54,7 +54,7 @@ goes_on t queue before choice holder first_holder began at arc e w trail up h =
     let his : Contains (row_of t e.person) arc = subst (λ (r : Reached). Contains (row_of t r.person) arc) same w.has.own in
     let has = w.held at e h up (omega arith) in
     let b = w.matched.tied.held e.arc.object e.person has in
-    let p_in = is_within choice e.person b.0 b.1 in
+    let p_in = is_within choice e.person b.arc b.picked in
     let j_in : e.arc.object < length (set holder arc.object (Some e.person)) = omega (arith, is_within holder e.arc.object e.person has, length-set holder arc.object (Some e.person)) in
     record {
       matched = moved t choice holder e.person arc e.arc.object w.matched has his w.free w.room;
@@ -68,7 +68,7 @@ goes_on t queue before choice holder first_holder began at arc e w trail up h =
           ∙ read_unset holder arc.object f.arc.object (Some e.person) (other_place holder arc.object f.arc.object f.person w.free by) ∙ by;
       first = λ f hf. read_unset choice e.person f.person (Some arc) (trail.apart 0 at f e hf h up) ∙ w.first f hf;
       kept = λ i x. kept_set choice e.person arc p_in i (w.kept i x);
-      going = λ after x. w.going after (takes_over choice arc.object e.person arc b.0 (untaken t choice holder arc.object w.matched w.free) his refl b.1 (subst (λ (j : ℕ). IsExchange t after (set choice e.person (Some arc)) j) (sym b.2) x));
+      going = λ after x. w.going after (takes_over choice arc.object e.person arc b.arc (untaken t choice holder arc.object w.matched w.free) his refl b.picked (subst (λ (j : ℕ). IsExchange t after (set choice e.person (Some arc)) j) (sym b.object) x));
     }
 
 -- the result of the exchange

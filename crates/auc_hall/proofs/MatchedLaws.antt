@@ -15,7 +15,7 @@ tied_moved : (choice : List (Option RowArc)) (holder : List (Option ℕ)) (p : �
     → AreTied (set choice p (Some a)) (set (set holder a.object (Some p)) j None)
 tied_moved choice holder p a j tied has free room =
     let b = tied.held j p has in
-    let p_in = is_within choice p b.0 b.1 in
+    let p_in = is_within choice p b.arc b.picked in
     let j_in : j < length (set holder a.object (Some p)) = omega (arith, is_within holder j p has, length-set holder a.object (Some p)) in
     let j_a = other_place holder a.object j p free has in
     let a_j = λ (e : a.object ≡ j). j_a (sym e) in
@@ -38,11 +38,15 @@ tied_moved choice holder p a j tied has free room =
             elim (cases_eq k a.object) [
               | inl e ↦
                   let i_p : p ≡ i = same_Some p i (sym (read_set holder a.object k (Some p) e room) ∙ h1) in
-                  (a, read_set choice p i (Some a) (sym i_p) p_in, sym e)
+                  record { arc = a; picked = read_set choice p i (Some a) (sym i_p) p_in; object = sym e }
               | inr n' ↦
                   let h2 : get_or holder k None ≡ Some i = sym (read_unset holder a.object k (Some p) n') ∙ h1 in
                   let x = tied.held k i h2 in
-                  (x.0, read_unset choice p i (Some a) (λ e. n (sym x.2 ∙ ap (λ (y : RowArc). y.object) (same_read choice i p x.0 b.0 x.1 b.1 e) ∙ b.2)) ∙ x.1, x.2)
+                  record {
+                    arc = x.arc;
+                    picked = read_unset choice p i (Some a) (λ e. n (sym x.object ∙ ap (λ (y : RowArc). y.object) (same_read choice i p x.arc b.arc x.picked b.picked e) ∙ b.object)) ∙ x.picked;
+                    object = x.object;
+                  }
             ]
       ];
     }
@@ -65,11 +69,11 @@ tied_placed choice holder p a tied p_in none free room =
       held = λ k i h. elim (cases_eq k a.object) [
         | inl e ↦
             let i_p : p ≡ i = same_Some p i (sym (read_set holder a.object k (Some p) e room) ∙ h) in
-            (a, read_set choice p i (Some a) (sym i_p) p_in, sym e)
+            record { arc = a; picked = read_set choice p i (Some a) (sym i_p) p_in; object = sym e }
         | inr n ↦
             let h2 : get_or holder k None ≡ Some i = sym (read_unset holder a.object k (Some p) n) ∙ h in
             let x = tied.held k i h2 in
-            (x.0, read_unset choice p i (Some a) (other_place choice p i x.0 none x.1) ∙ x.1, x.2)
+            record { arc = x.arc; picked = read_unset choice p i (Some a) (other_place choice p i x.arc none x.picked) ∙ x.picked; object = x.object }
       ];
     }
 
@@ -87,7 +91,7 @@ pub moved : (t : Table) (choice : List (Option RowArc)) (holder : List (Option �
     → IsMatched t (set choice p (Some a)) (set (set holder a.object (Some p)) j None)
 moved t choice holder p a j m has his free room =
     let b = m.tied.held j p has in
-    let p_in = is_within choice p b.0 b.1 in
+    let p_in = is_within choice p b.arc b.picked in
     record {
       persons = length-set choice p (Some a) ∙ m.persons;
       objects = length-set (set holder a.object (Some p)) j None ∙ length-set holder a.object (Some p) ∙ m.objects;
@@ -118,12 +122,12 @@ untaken t choice holder j m free i b h e = none-some i (sym free ∙ ap (λ (k :
 pub holders_of : (t : Table) (choice : List (Option RowArc)) (holder : List (Option ℕ)) → IsMatched t choice holder → AreHolders t holder
 holders_of t choice holder m = record {
   objects = m.objects;
-  within = λ j i h. let b = m.tied.held j i h in omega (arith, is_within choice i b.0 b.1, m.persons);
+  within = λ j i h. let b = m.tied.held j i h in omega (arith, is_within choice i b.arc b.picked, m.persons);
   once = λ j k i hj hk.
       let b = m.tied.held j i hj in
       let d = m.tied.held k i hk in
-      sym b.2 ∙ ap (λ (a : RowArc). a.object) (same_read choice i i b.0 d.0 b.1 d.1 refl) ∙ d.2;
+      sym b.object ∙ ap (λ (a : RowArc). a.object) (same_read choice i i b.arc d.arc b.picked d.picked refl) ∙ d.object;
 }
 
 pub holds_nothing : (choice : List (Option RowArc)) (holder : List (Option ℕ)) (i : ℕ) → AreTied choice holder → get_or choice i None ≡ None → HoldsNothing holder i
-holds_nothing choice holder i tied free j h = let b = tied.held j i h in none-some b.0 (sym free ∙ b.1)
+holds_nothing choice holder i tied free j h = let b = tied.held j i h in none-some b.arc (sym free ∙ b.picked)

@@ -47,4 +47,4 @@ not_an_arc_of_others t choice person n a others may = All-contains (λ (b : RowA
 pub not_on_a_taken_object : (t : Table) (choice : List (Option RowArc)) (holder : List (Option ℕ)) (person n i : ℕ) (x a : RowArc) → IsMatched t choice holder → AllPairs (λ a b. a.arc < b.arc) (row_of t person) → Contains (row_of t person) x → x.arc ≡ n → holder_of holder x.object ≡ Some i → MayPlace t choice person n a → ⊥
 not_on_a_taken_object t choice holder person n i x a m rising his is taken may =
     let b = m.tied.held x.object i taken in
-    may.untaken i b.0 b.1 (b.2 ∙ ap (λ (r : RowArc). r.object) (same_number (row_of t person) x a rising his may.his (is ∙ sym may.numbered)))
+    may.untaken i b.arc b.picked (b.object ∙ ap (λ (r : RowArc). r.object) (same_number (row_of t person) x a rising his may.his (is ∙ sym may.numbered)))

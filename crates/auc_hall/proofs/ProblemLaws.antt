@@ -38,30 +38,33 @@ first_kept false x xs a h = inr h
 equal_if : (m n : ℕ) → eqb m n ≡ true → m ≡ n
 equal_if m n h = grind (arith, nat_tests)
 
-record IsAt (arcs : List Arc) (i m : ℕ) (a : RowArc) (n : ℕ) (b : Arc) : Type 0 where
-  pub there : slice_get arcs n ≡ Some b
-  pub person : b.person ≡ i
-  pub is : row_arc (m + n, b) ≡ a
+-- the arc of the list that is this arc of the row, and its place, where the first place has the number m
+record IsAt (arcs : List Arc) (i m : ℕ) (a : RowArc) : Type 0 where
+  pub at : ℕ
+  pub arc : Arc
+  pub there : slice_get arcs at ≡ Some arc
+  pub person : arc.person ≡ i
+  pub is : row_arc (m + at, arc) ≡ a
 
-row_arc_at : (person m : ℕ) (arcs : List Arc) (a : RowArc) → Contains (map row_arc (filter (is_of person) (enumerate_from m arcs))) a → (n : ℕ) × (b : Arc) × IsAt arcs person m a n b
+row_arc_at : (person m : ℕ) (arcs : List Arc) (a : RowArc) → Contains (map row_arc (filter (is_of person) (enumerate_from m arcs))) a → IsAt arcs person m a
 row_arc_at person m [] a h = absurd (nothing a h)
 row_arc_at person m (c ∷ arcs) a h = elim (first_kept (eqb c.person person) (m, c) (filter (is_of person) (enumerate_from (m + 1) arcs)) a h) [
-  | inl p ↦ (0, c, record { there = refl; person = equal_if c.person person p.0; is = ap (λ (k : ℕ). row_arc (k, c)) (omega arith) ∙ p.1 })
+  | inl p ↦ record { at = 0; arc = c; there = refl; person = equal_if c.person person p.0; is = ap (λ (k : ℕ). row_arc (k, c)) (omega arith) ∙ p.1 }
   | inr b ↦
       let x = row_arc_at person (m + 1) arcs a b in
-      (suc x.0, x.1, record { there = x.2.there; person = x.2.person; is = ap (λ (k : ℕ). row_arc (k, x.1)) (omega arith) ∙ x.2.is })
+      record { at = suc x.at; arc = x.arc; there = x.there; person = x.person; is = ap (λ (k : ℕ). row_arc (k, x.arc)) (omega arith) ∙ x.is }
 ]
 
 pub stands_for : (person : ℕ) (arcs : List Arc) (a : RowArc) → Contains (row person arcs) a → (b : Arc) × StandsFor arcs person a b
 unfolding row
 stands_for person arcs a h =
     let x = row_arc_at person 0 arcs a h in
-    let from_none : 0 + x.0 ≡ x.0 = omega arith in (
-      x.1,
+    let from_none : 0 + x.at ≡ x.at = omega arith in (
+      x.arc,
       record {
-        there = ap (slice_get arcs) (sym (ap (λ (r : RowArc). r.arc) x.2.is) ∙ from_none) ∙ x.2.there;
-        person = x.2.person;
-        object = ap (λ (r : RowArc). r.object) x.2.is;
+        there = ap (slice_get arcs) (sym (ap (λ (r : RowArc). r.arc) x.is) ∙ from_none) ∙ x.there;
+        person = x.person;
+        object = ap (λ (r : RowArc). r.object) x.is;
       },
     )
 
@@ -155,16 +158,16 @@ not_equal m n ne = grind (arith, nat_tests)
 
 pub full_of : (p : Problem) (t : Table) (numbers : List ℕ) → IsTableOf p t → IsFull t numbers → IsFullOf p numbers
 full_of p t numbers of f =
-    let choice = f.0 in
-    let same_length : length choice ≡ p.persons = f.1.persons ∙ length-rows p t of in
+    let choice = f.choice in
+    let same_length : length choice ≡ p.persons = f.assigned.persons ∙ length-rows p t of in
     let h : StandFor p.arcs choice 0 = λ i a e.
     let lt : i < p.persons = omega (arith, same_length, slice_get_within choice i a e) in
-    let x = stands_for i p.arcs a (subst (λ (r : List RowArc). Contains r a) (row_is p t of i lt) (f.1.own i a e)) in
+    let x = stands_for i p.arcs a (subst (λ (r : List RowArc). Contains r a) (row_is p t of i lt) (f.assigned.own i a e)) in
     let is : x.0 ≡ listed p.arcs a = sym (get_or_from_slice_get p.arcs a.arc x.0 (record { person = 0; object = 0; cost = pos 0 }) x.1.there) in
     subst (λ (n : ℕ). StandsFor p.arcs n a (listed p.arcs a)) (omega arith) (subst (λ (b : Arc). StandsFor p.arcs i a b) is x.1)
-    in (
-      map (listed p.arcs) choice,
-      record {
+    in record {
+      choice = map (listed p.arcs) choice;
+      assigned = record {
         persons = persons_are p.arcs choice 0 h ∙ ap (range_with_len 0) same_length;
         arcs = All-map (Contains p.arcs) (listed p.arcs) choice (λ i d lt. contains_at p.arcs (get_or choice i d).arc (listed p.arcs (get_or choice i d)) (h i (get_or choice i d) (slice_get-get_or choice i d lt)).there);
         objects = IsDistinct-from_apart nat_eq (map object_of (map (listed p.arcs) choice)) (λ i j d lt in_list.
@@ -172,10 +175,10 @@ full_of p t numbers of f =
             let i_in : i < length choice = omega (arith, len) in
             let j_in : j < length choice = omega (arith, len) in
             not_equal (get_or (map object_of (map (listed p.arcs) choice)) i d) (get_or (map object_of (map (listed p.arcs) choice)) j d)
-            (λ e. absurd (omega (arith, f.1.objects i j (get_or choice i no_arc) (get_or choice j no_arc) (slice_get-get_or choice i no_arc i_in) (slice_get-get_or choice j no_arc j_in) (sym (object_at p.arcs choice h i d i_in) ∙ e ∙ object_at p.arcs choice h j d j_in)))));
-      },
-      ap (map (slice_get p.arcs)) f.2 ∙ numbers_are p.arcs choice 0 h,
-    )
+            (λ e. absurd (omega (arith, f.assigned.objects i j (get_or choice i no_arc) (get_or choice j no_arc) (slice_get-get_or choice i no_arc i_in) (slice_get-get_or choice j no_arc j_in) (sym (object_at p.arcs choice h i d i_in) ∙ e ∙ object_at p.arcs choice h j d j_in)))));
+      };
+      arcs_are = ap (map (slice_get p.arcs)) f.numbers_are ∙ numbers_are p.arcs choice 0 h;
+    }
 
 pub matching_of : (p : Problem) (t : Table) (m : Matching) → IsTableOf p t → IsMatching t m → IsMatchingOf p m
 matching_of p t (Full numbers) of h = full_of p t numbers of h

@@ -78,10 +78,10 @@ reach t holder queue seen y holders s new =
           | inr p ↦ subst (λ (r : Reached). WasSeen (set seen y.arc.object true) r.arc.object) p.1 (get_or-set_same seen y.arc.object true false new.room)
         ];
         behind = λ j h. elim (cases_eq j y.arc.object) [
-          | inl e ↦ (length queue, y, get_pushed queue y, some, sym e)
+          | inl e ↦ record { at = length queue; by = y; there = get_pushed queue y; later = some; object = sym e }
           | inr n ↦
               let x = s.marks.behind j (sym (get_or-set_other seen y.arc.object j true false n) ∙ h) in
-              (x.0, x.1, get_kept queue (y ∷ []) x.0 x.1 x.2, x.3, x.4)
+              record { at = x.at; by = x.by; there = get_kept queue (y ∷ []) x.at x.by x.there; later = x.later; object = x.object }
         ];
         count = omega (arith, count_set seen y.arc.object new.room new.unseen, s.marks.count, length-append queue (y ∷ []));
       };
@@ -239,6 +239,6 @@ none_left queue seen at le left j = left j (λ m e h from. absurd (omega (arith,
 -- what a search has marked is what it has reached
 pub are_marks : (t : Table) (holder : List (Option ℕ)) (queue : List Reached) (seen : List Bool) → IsSearch t holder queue seen → AreMarks queue seen
 are_marks t holder queue seen s j others = elim (cases_Bool (get_or seen j false)) [
-  | inl seen_it ↦ (let x = s.marks.behind j seen_it in absurd (others x.0 x.1 x.2 x.4))
+  | inl seen_it ↦ (let x = s.marks.behind j seen_it in absurd (others x.at x.by x.there x.object))
   | inr f ↦ f
 ]

@@ -52,7 +52,7 @@ crossed_apart zero (suc (suc k)) a b h g e = absurd (none-some b g)
 crossed_apart (suc zero) (suc (suc k)) a b h g e = absurd (none-some b g)
 
 crossed_is_full : IsFull all_for_all (1 ∷ 2 ∷ [])
-crossed_is_full = (to 1 1 ∷ to 0 2 ∷ [], record { persons = refl; own = crossed_own; objects = crossed_apart }, refl)
+crossed_is_full = record { choice = to 1 1 ∷ to 0 2 ∷ []; assigned = record { persons = refl; own = crossed_own; objects = crossed_apart }; numbers_are = refl }
 
 not_the_same_object : IsRowAssignment all_for_all (to 0 0 ∷ to 0 2 ∷ []) → ⊥
 not_the_same_object h = let e = h.objects 0 1 (to 0 0) (to 0 2) refl refl refl in absurd (omega (arith, e))

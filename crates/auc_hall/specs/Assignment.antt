@@ -13,5 +13,7 @@ pub record IsRowAssignment (t : Table) (choice : List RowArc) : Type 0 where
   pub objects : (i k : ℕ) (a b : RowArc) → slice_get choice i ≡ Some a → slice_get choice k ≡ Some b → a.object ≡ b.object → i ≡ k
 
 -- the numbers of the arcs of an assignment
-abbrev pub IsFull : Table → List ℕ → Type 0
-IsFull t arcs = (choice : List RowArc) × IsRowAssignment t choice × (arcs ≡ map number_of choice)
+pub record IsFull (t : Table) (arcs : List ℕ) : Type 0 where
+  pub choice : List RowArc
+  pub assigned : IsRowAssignment t choice
+  pub numbers_are : arcs ≡ map number_of choice

@@ -16,11 +16,18 @@ chosen [] = []
 chosen (Some a ∷ picks) = a ∷ chosen picks
 chosen (None ∷ picks) = chosen picks
 
+-- the person is in the queue
+pub record IsInQueue (queue : List Reached) (i : ℕ) : Type 0 where
+  pub at : ℕ
+  pub by : Reached
+  pub there : slice_get queue at ≡ Some by
+  pub person : by.person ≡ i
+
 -- flags that are set for exactly the persons of the queue
 pub record AreReached (queue : List Reached) (persons : ℕ) (flags : List Bool) : Type 0 where
   pub size : length flags ≡ persons
   pub all : (m : ℕ) (e : Reached) → slice_get queue m ≡ Some e → WasSeen flags e.person
-  pub only : (i : ℕ) → WasSeen flags i → (m : ℕ) × (e : Reached) × (slice_get queue m ≡ Some e) × (e.person ≡ i)
+  pub only : (i : ℕ) → WasSeen flags i → IsInQueue queue i
   pub count : marked flags ≡ length queue
 
 -- the persons of the queue are distinct and in range

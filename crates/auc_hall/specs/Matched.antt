@@ -12,11 +12,17 @@ holder_of holder j = slice_index_or holder j None
 abbrev pub IsPlaced : List (Option RowArc) → ℕ → Type 0
 IsPlaced choice i = (a : RowArc) × (pick choice i ≡ Some a)
 
+-- the person has an arc to this object
+pub record HasObject (choice : List (Option RowArc)) (i j : ℕ) : Type 0 where
+  pub arc : RowArc
+  pub picked : pick choice i ≡ Some arc
+  pub object : arc.object ≡ j
+
 -- Both sides agree: each person with an arc holds its object, and each holder of an object has an arc to it. So no
 -- object has two holders.
 pub record AreTied (choice : List (Option RowArc)) (holder : List (Option ℕ)) : Type 0 where
   pub taken : (i : ℕ) (a : RowArc) → pick choice i ≡ Some a → holder_of holder a.object ≡ Some i
-  pub held : (j i : ℕ) → holder_of holder j ≡ Some i → (a : RowArc) × (pick choice i ≡ Some a) × (a.object ≡ j)
+  pub held : (j i : ℕ) → holder_of holder j ≡ Some i → HasObject choice i j
 
 -- a partial assignment by these rows, kept both by persons and by objects: each arc is in its person's row
 pub record IsMatched (t : Table) (choice : List (Option RowArc)) (holder : List (Option ℕ)) : Type 0 where

@@ -7,8 +7,10 @@ use Rattle.auc_graph.specs.HallSet.{IsHallSet}
 use Rattle.auc_graph.specs.Rising.{IsRising}
 
 -- the arcs at these places of the problem's list are an assignment
-abbrev pub IsFullOf : Problem → List ℕ → Type 0
-IsFullOf p numbers = (choice : List Arc) × IsAssignment p choice × (map (slice_get p.arcs) numbers ≡ map Some choice)
+pub record IsFullOf (p : Problem) (numbers : List ℕ) : Type 0 where
+  pub choice : List Arc
+  pub assigned : IsAssignment p choice
+  pub arcs_are : map (slice_get p.arcs) numbers ≡ map Some choice
 
 -- each object is the end of an arc of one of the persons
 abbrev pub AreKnown : Problem → List ℕ → List ℕ → Type 0

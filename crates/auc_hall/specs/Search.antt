@@ -50,8 +50,12 @@ abbrev pub WasSeen : List Bool → ℕ → Type 0
 WasSeen seen j = slice_index_or seen j false ≡ true
 
 -- the object is that of a person of the queue after the first
-abbrev pub Reaches : List Reached → ℕ → Type 0
-Reaches queue j = (m : ℕ) × (e : Reached) × (slice_get queue m ≡ Some e) × (0 < m) × (e.arc.object ≡ j)
+pub record Reaches (queue : List Reached) (j : ℕ) : Type 0 where
+  pub at : ℕ
+  pub by : Reached
+  pub there : slice_get queue at ≡ Some by
+  pub later : 0 < at
+  pub object : by.arc.object ≡ j
 
 -- an object to which no arc of the queue leads has no flag
 abbrev pub AreMarks : List Reached → List Bool → Type 0

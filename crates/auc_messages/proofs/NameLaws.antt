@@ -17,17 +17,17 @@ shown_first c old rest text step = ap (flat_map shown_character) (chars_past_cha
 
 -- one character more was written
 pub goes_on : (c : ℕ) (old rest all : List ℕ) (a b d : Option (List ℕ)) → IsUtf8 old → old ≡ encode_utf8 c ++ rest → Completes a b (shown_name old) all → Appends b d (shown_character c) → Completes a d (shown_name rest) all
-goes_on c old rest all a b d text step h w = (
-  h.0 ++ shown_character c,
-  append_assoc h.0 (shown_character c) (shown_name rest) ∙ ap (λ (t : List ℕ). h.0 ++ t) (sym (shown_first c old rest text step)) ∙ h.1,
-  Appends-trans a b d h.0 (shown_character c) h.2 w,
-)
+goes_on c old rest all a b d text step h w = record {
+  done = h.done ++ shown_character c;
+  whole = append_assoc h.done (shown_character c) (shown_name rest) ∙ ap (λ (t : List ℕ). h.done ++ t) (sym (shown_first c old rest text step)) ∙ h.whole;
+  written = Appends-trans a b d h.done (shown_character c) h.written w;
+}
 
 -- a character was not written whole
 pub cut_in_character : (c : ℕ) (old rest all : List ℕ) (a b d : Option (List ℕ)) → IsUtf8 old → old ≡ encode_utf8 c ++ rest → Completes a b (shown_name old) all → Begins b d (shown_character c) → Begins a d all
 cut_in_character c old rest all a b d text step h w =
-    subst (λ (t : List ℕ). Begins a d t) (append_assoc h.0 (shown_character c) (shown_name rest) ∙ ap (λ (t : List ℕ). h.0 ++ t) (sym (shown_first c old rest text step)) ∙ h.1)
-    (begins_front a d (h.0 ++ shown_character c) (shown_name rest) (begins_behind a b d h.0 (shown_character c) h.2 w))
+    subst (λ (t : List ℕ). Begins a d t) (append_assoc h.done (shown_character c) (shown_name rest) ∙ ap (λ (t : List ℕ). h.done ++ t) (sym (shown_first c old rest text step)) ∙ h.whole)
+    (begins_front a d (h.done ++ shown_character c) (shown_name rest) (begins_behind a b d h.done (shown_character c) h.written w))
 
 -- no character is left
 pub is_done : (old all : List ℕ) (a b : Option (List ℕ)) → length old ≡ 0 → Completes a b (shown_name old) all → Appends a b all

@@ -21,20 +21,20 @@ next_amount_is : (s spread eps : ℤ) (q : ℕ → ℤ) (row : List RowArc) (f :
     → Reached (value s q) row f.best f.second → IsAmount s spread eps q row f.best amount
 next_amount_is s spread eps q row f amount h lt is (inl r) = absurd (omega (arith, ints, r.1))
 next_amount_is s spread eps q row f amount h lt is (inr r) = inl (
-  r.0,
+  r.arc,
   record {
-    listed = r.1;
-    other = r.2;
-    least = All-weaker (λ b. b.object ≢ f.best.object → f.second ≤ℤ value s q b) (λ b. b.object ≢ f.best.object → value s q r.0 ≤ℤ value s q b) (λ b g ne. rw r.3 (g ne)) row h.others;
+    listed = r.listed;
+    other = r.other;
+    least = All-weaker (λ b. b.object ≢ f.best.object → f.second ≤ℤ value s q b) (λ b. b.object ≢ f.best.object → value s q r.arc ≤ℤ value s q b) (λ b g ne. rw r.value_is (g ne)) row h.others;
   },
-  is ∙ rw (← r.3, ← h.is_value) refl,
+  is ∙ rw (← r.value_is, ← h.is_value) refl,
 )
 
 -- without one
 only_amount_is : (s spread eps : ℤ) (q : ℕ → ℤ) (row : List RowArc) (f : Scan) (amount : ℤ) → endless ≤ℤ f.second → amount ≡ (q f.best.object +ℤ (s *ℤ spread)) +ℤ eps
     → Reached (value s q) row f.best f.second → IsAmount s spread eps q row f.best amount
 only_amount_is s spread eps q row f amount le is (inl r) = inr (r.0, is)
-only_amount_is s spread eps q row f amount le is (inr r) = absurd (omega (arith, ints, r.4.high))
+only_amount_is s spread eps q row f amount le is (inr r) = absurd (omega (arith, ints, r.in_range.high))
 
 pub next_bid : (s spread eps : ℤ) (q : ℕ → ℤ) (row : List RowArc) (f : Scan) (amount : ℤ) → IsScan (value s q) row f → f.second <ℤ endless → amount ≡ (q f.best.object +ℤ (f.second -ℤ f.value)) +ℤ eps → IsBid s spread eps q row f.best amount
 next_bid s spread eps q row f amount h lt is = record { best = best_arc (value s q) row f h; amount_is = next_amount_is s spread eps q row f amount h lt is h.reached }

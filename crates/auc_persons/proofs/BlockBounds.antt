@@ -25,17 +25,28 @@ module _ (row : List RowArc) (block : ℕ) (within : 16 * block ≤ length row) 
   beside_length : length (beside block row) ≡ 16 * block + (length row - (16 * block + 16))
   beside_length = length-append (take (16 * block) row) (drop (16 * block + 16) row) ∙ omega (arith, front_length, back_length)
 
-  -- the place in the row of an arc outside the block
-  stands_by : (i : ℕ) (d : RowArc) → i < length (beside block row) → (i < 16 * block) ⊎ (16 * block ≤ i) → (p : ℕ) × (get_or (beside block row) i d ≡ get_or row p d) × (p < length row) × (((i < 16 * block) × (p ≡ i)) ⊎ ((16 * block ≤ i) × (p ≡ i + 16)))
-  stands_by i d lt (inl before) = (i, get_or_append_left (take (16 * block) row) (drop (16 * block + 16) row) d i (omega (arith, front_length, before)) ∙ get_or-take (16 * block) row i d before, omega (arith, before, within), inl (before, refl))
-  stands_by i d lt (inr behind) = (
-    16 * block + 16 + (i - 16 * block),
-    get_or-append_right (take (16 * block) row) (drop (16 * block + 16) row) (16 * block) i d front_length behind ∙ get_or-drop (16 * block + 16) row (i - 16 * block) d,
-    omega (arith, lt, beside_length, behind),
-    inr (behind, omega (arith, behind)),
-  )
+  -- the place in the row of an arc outside the block: the same one in front of it, and 16 more behind it
+  record StandsAt (i : ℕ) (d : RowArc) : Type 0 where
+    place : ℕ
+    same : get_or (beside block row) i d ≡ get_or row place d
+    known : place < length row
+    moved : ((i < 16 * block) × (place ≡ i)) ⊎ ((16 * block ≤ i) × (place ≡ i + 16))
 
-  stands : (i : ℕ) (d : RowArc) → i < length (beside block row) → (p : ℕ) × (get_or (beside block row) i d ≡ get_or row p d) × (p < length row) × (((i < 16 * block) × (p ≡ i)) ⊎ ((16 * block ≤ i) × (p ≡ i + 16)))
+  stands_by : (i : ℕ) (d : RowArc) → i < length (beside block row) → (i < 16 * block) ⊎ (16 * block ≤ i) → StandsAt i d
+  stands_by i d lt (inl before) = record {
+    place = i;
+    same = get_or_append_left (take (16 * block) row) (drop (16 * block + 16) row) d i (omega (arith, front_length, before)) ∙ get_or-take (16 * block) row i d before;
+    known = omega (arith, before, within);
+    moved = inl (before, refl);
+  }
+  stands_by i d lt (inr behind) = record {
+    place = 16 * block + 16 + (i - 16 * block);
+    same = get_or-append_right (take (16 * block) row) (drop (16 * block + 16) row) (16 * block) i d front_length behind ∙ get_or-drop (16 * block + 16) row (i - 16 * block) d;
+    known = omega (arith, lt, beside_length, behind);
+    moved = inr (behind, omega (arith, behind));
+  }
+
+  stands : (i : ℕ) (d : RowArc) → i < length (beside block row) → StandsAt i d
   stands i d lt = stands_by i d lt (cases_lt i (16 * block))
 
   in_order : (i j p q : ℕ) → i < j → ((i < 16 * block) × (p ≡ i)) ⊎ ((16 * block ≤ i) × (p ≡ i + 16)) → ((j < 16 * block) × (q ≡ j)) ⊎ ((16 * block ≤ j) × (q ≡ j + 16)) → p < q
@@ -48,14 +59,14 @@ module _ (row : List RowArc) (block : ℕ) (within : 16 * block ≤ length row) 
   beside_rises rises i j d lt j_lt =
       let x = stands i d (omega (arith, lt, j_lt)) in
       let y = stands j d j_lt in
-      rw (x.1, y.1) (rises x.0 y.0 d (in_order i j x.0 y.0 lt x.3 y.3) y.2)
+      rw (x.same, y.same) (rises x.place y.place d (in_order i j x.place y.place lt x.moved y.moved) y.known)
 
   -- no arc of the block is beside it
   not_beside : (k : ℕ) (d : RowArc) → Rises row → 16 * block ≤ k → k < 16 * block + 16 → k < length row → Contains (beside block row) (get_or row k d) → ⊥
   not_beside k d rises low high lt (m, m_lt, e) =
       let s = stands m (get_or row k d) m_lt in
-      let same : get_or row s.0 d ≡ get_or row k d = get_or_default row s.0 d (get_or row k d) s.2 ∙ sym s.1 ∙ e in
-      apart s.0 s.2 (ap (λ (a : RowArc). a.arc) same) (other s.0 s.3)
+      let same : get_or row s.place d ≡ get_or row k d = get_or_default row s.place d (get_or row k d) s.known ∙ sym s.same ∙ e in
+      apart s.place s.known (ap (λ (a : RowArc). a.arc) same) (other s.place s.moved)
     where
       other : (p : ℕ) → ((m < 16 * block) × (p ≡ m)) ⊎ ((16 * block ≤ m) × (p ≡ m + 16)) → (p < k) ⊎ (k < p)
       other p (inl x) = inl (omega (arith, x.0, x.1, low))

@@ -25,11 +25,11 @@ found_in_some val row arcs f members s = record {
   where
     order : Reached val arcs f.best f.second → f.value ≤ℤ f.second
     order (inl (same, none)) = omega (arith, ints, none, s.in_range.high)
-    order (inr (b, there, other, e, ok)) = let low = All-contains (λ b. f.value ≤ℤ val b) arcs b s.least there in omega (arith, ints, low, e)
+    order (inr r) = let low = All-contains (λ b. f.value ≤ℤ val b) arcs r.arc s.least r.listed in let e = r.value_is in omega (arith, ints, low, e)
 
     meet : Reached val arcs f.best f.second → Met val row f.best f.second
     meet (inl (same, none)) = inl none
-    meet (inr (b, there, other, e, ok)) = inr (b, All-contains (Contains row) arcs b members there, other, e, ok)
+    meet (inr r) = inr (record { arc = r.arc; listed = All-contains (Contains row) arcs r.arc members r.listed; other = r.other; value_is = r.value_is; in_range = r.in_range })
 
 -- each arc goes before the best one or doesn't
 tied_object : (a : RowArc) (v : ℤ) (f : Scan) → v ≡ f.value → a.object ≡ f.best.object → (a.arc < f.best.arc) ⊎ (f.best.arc ≤ a.arc) → Precedes a v f ⊎ Follows a v f
@@ -193,7 +193,7 @@ pub record IsTaken (val : RowArc → ℤ) (row : List RowArc) (f : Scan) (a : Ro
 module _ (val : RowArc → ℤ) (row : List RowArc) (f r : Scan) (a : RowArc) (v : ℤ) (h : IsFound val row f) (there : Contains row a) (is : v ≡ val a) (ok : IsValue v) (t : Taken f a v r) where
   met_same : a.object ≡ f.best.object → Met val row f.best f.second → Met val row a f.second
   met_same same (inl e) = inl e
-  met_same same (inr m) = inr (m.0, m.1, (λ e. m.2 (e ∙ same)), m.3, m.4)
+  met_same same (inr m) = inr (record { arc = m.arc; listed = m.listed; other = λ e. m.other (e ∙ same); value_is = m.value_is; in_range = m.in_range })
 
   same_first : a.object ≡ f.best.object → Precedes a v f → IsTaken val row f a r
   same_first same p = rw (t.same_first same p) (record {
@@ -204,14 +204,14 @@ module _ (val : RowArc → ℤ) (row : List RowArc) (f r : Scan) (a : RowArc) (v
 
   other_first : (a.object ≡ f.best.object → ⊥) → Precedes a v f → IsTaken val row f a r
   other_first other p = rw (t.other_first other p) (record {
-    found = record { listed = there; is_value = is; in_range = ok; ordered = precedes_low a v f p; met = inr (f.best, h.listed, (λ e. other (sym e)), sym h.is_value, h.in_range) };
+    found = record { listed = there; is_value = is; in_range = ok; ordered = precedes_low a v f p; met = inr (record { arc = f.best; listed = h.listed; other = λ e. other (sym e); value_is = sym h.is_value; in_range = h.in_range }) };
     covered = covers_first val a v f.value is ok;
     kept = λ b c. before val f a b v f.value p c (λ ne. c.least);
   })
 
   other_next : (a.object ≡ f.best.object → ⊥) → Follows a v f → v <ℤ f.second → IsTaken val row f a r
   other_next other q lt = rw (t.other_next other q lt) (record {
-    found = record { listed = h.listed; is_value = h.is_value; in_range = h.in_range; ordered = follows_high a v f q; met = inr (a, there, other, sym is, ok) };
+    found = record { listed = h.listed; is_value = h.is_value; in_range = h.in_range; ordered = follows_high a v f q; met = inr (record { arc = a; listed = there; other = other; value_is = sym is; in_range = ok }) };
     covered = after val f a v v is ok q (λ _. omega (arith, ints, is));
     kept = λ b c. record { range = c.range; least = c.least; lowest = c.lowest; earliest = c.earliest; others = λ ne. (let o = c.others ne in omega (arith, ints, o, lt)) };
   })
@@ -243,7 +243,7 @@ above_limit val row f a v l h is ok limit lt =
 -- no second is below all values
 met_low : (val : RowArc → ℤ) (row : List RowArc) (a : RowArc) (second : ℤ) → Met val row a second → neg_ℤ (pos (2 ^ 52)) ≤ℤ second
 met_low val row a second (inl e) = omega (arith, ints, e)
-met_low val row a second (inr m) = m.4.low
+met_low val row a second (inr m) = m.in_range.low
 
 pub found_low : (val : RowArc → ℤ) (row : List RowArc) (f : Scan) → IsFound val row f → neg_ℤ (pos (2 ^ 52)) ≤ℤ f.second
 found_low val row f h = met_low val row f.best f.second h.met

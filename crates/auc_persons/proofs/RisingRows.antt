@@ -66,13 +66,17 @@ nears_whole val row l i le h = row_whole val row i (scan_at l) le h.found
 pub record Climbs (row : List RowArc) (last i : ℕ) : Type 0 where
   pub pairs : IsRisingRow (take i row)
   pub below : All (λ b. b.object ≤ last) (take i row)
-  pub top : (k : ℕ) × (k < i) × (last ≡ (get_or row k no_arc).object)
+  pub place : ℕ
+  pub within : place < i
+  pub top : last ≡ (get_or row place no_arc).object
 
 pub climbs_first : (row : List RowArc) → 0 < length row → Climbs row (get_or row 0 no_arc).object 1
 climbs_first row lt = record {
   pairs = rw (take_more row 0 no_arc lt) (λ i j d less within. absurd (omega (arith, less, within)));
   below = All-more (λ b. b.object ≤ (get_or row 0 no_arc).object) row 0 no_arc lt (All-nil (λ b. b.object ≤ (get_or row 0 no_arc).object)) (omega arith);
-  top = (0, omega arith, refl);
+  place = 0;
+  within = omega arith;
+  top = refl;
 }
 
 pub climbs_more : (row : List RowArc) (last i : ℕ) → Climbs row last i → i < length row → last < (get_or row i no_arc).object → Climbs row (get_or row i no_arc).object (i + 1)
@@ -83,7 +87,9 @@ climbs_more row last i h lt above =
     record {
       pairs = rw (take_more row i no_arc lt) pairs;
       below = All-more (λ b. b.object ≤ (get_or row i no_arc).object) row i no_arc lt lower (omega arith);
-      top = (i, omega arith, refl);
+      place = i;
+      within = omega arith;
+      top = refl;
     }
 
 pub climbs_whole : (row : List RowArc) (last i : ℕ) → length row ≤ i → Climbs row last i → IsRisingRow row
@@ -92,6 +98,6 @@ climbs_whole row last i le h = rw (take_all i row le) at h.pairs
 -- an arc to an object that is no higher ends it
 pub falls : (row : List RowArc) (last i : ℕ) → Climbs row last i → i < length row → (get_or row i no_arc).object ≤ last → IsRisingRow row → ⊥
 falls row last i h within le rising =
-    let before = rising h.top.0 i no_arc h.top.1 within in
-    let same = h.top.2 in
+    let before = rising h.place i no_arc h.within within in
+    let same = h.top in
     omega (arith, before, same, le)

@@ -24,8 +24,13 @@ order row p q rises p_lt q_lt lt = by (cases_lt p q) (cases_lt q p)
     by (inr le) (inr ge) = let same : p ≡ q = omega arith in let e = ap (place row) same in absurd (omega (arith, e, lt))
 
 -- the place in this row of an arc of the other one
-found : (row other : List RowArc) (i : ℕ) → All (Contains row) other → i < length other → (q : ℕ) × (q < length row) × (get_or row q no_arc ≡ get_or other i no_arc)
-found row other i members lt = let m = members i no_arc lt in (m.0, m.1, get_or_default row m.0 no_arc (get_or other i no_arc) m.1 ∙ m.2)
+record IsAt (row other : List RowArc) (i : ℕ) : Type 0 where
+  place : ℕ
+  known : place < length row
+  same : get_or row place no_arc ≡ get_or other i no_arc
+
+found : (row other : List RowArc) (i : ℕ) → All (Contains row) other → i < length other → IsAt row other i
+found row other i members lt = let m = members i no_arc lt in record { place = m.0; known = m.1; same = get_or_default row m.0 no_arc (get_or other i no_arc) m.1 ∙ m.2 }
 
 module _ (row other : List RowArc) (rises : Rises row) (also : Rises other) (members : All (Contains row) other) where
   -- of two arcs of the other row, the earlier one comes earlier in this row too
@@ -40,8 +45,8 @@ module _ (row other : List RowArc) (rises : Rises row) (also : Rises other) (mem
   no_earlier zero p lt there is = omega arith
   no_earlier (suc i) p lt there is =
       let f = found row other i members (omega (arith, lt)) in
-      let le = no_earlier i f.0 (omega (arith, lt)) f.1 f.2 in
-      let before = in_order i (suc i) f.0 p (omega arith) lt f.1 there f.2 is in
+      let le = no_earlier i f.place (omega (arith, lt)) f.known f.same in
+      let before = in_order i (suc i) f.place p (omega arith) lt f.known there f.same is in
       omega (arith, le, before)
 
   -- so there are no more of them
@@ -52,8 +57,8 @@ module _ (row other : List RowArc) (rises : Rises row) (also : Rises other) (mem
       by zero e = omega (arith, e)
       by (suc n) e =
           let f = found row other n members (omega (arith, e)) in
-          let le = no_earlier n f.0 (omega (arith, e)) f.1 f.2 in
-          let lt = f.1 in
+          let le = no_earlier n f.place (omega (arith, e)) f.known f.same in
+          let lt = f.known in
           omega (arith, e, le, lt)
 
 module _ (row other : List RowArc) (rises : Rises row) (also : Rises other) (members : All (Contains row) other) (same : length other ≡ length row) where
@@ -62,17 +67,17 @@ module _ (row other : List RowArc) (rises : Rises row) (also : Rises other) (mem
   no_later (suc left) i p e there is =
       let lt : suc i < length other = omega (arith, e) in
       let f = found row other (suc i) members lt in
-      let le = no_later left (suc i) f.0 (omega (arith, e)) f.1 f.2 in
-      let before = in_order row other rises also members i (suc i) p f.0 (omega arith) lt there f.1 is f.2 in
+      let le = no_later left (suc i) f.place (omega (arith, e)) f.known f.same in
+      let before = in_order row other rises also members i (suc i) p f.place (omega arith) lt there f.known is f.same in
       omega (arith, le, before)
 
   at : (i : ℕ) (d : RowArc) → i < length other → get_or other i d ≡ get_or row i d
   at i d lt =
       let f = found row other i members lt in
-      let low = no_earlier row other rises also members i f.0 lt f.1 f.2 in
-      let high = no_later (length other - i - 1) i f.0 (omega (arith, lt)) f.1 f.2 in
-      let e : f.0 ≡ i = omega (arith, low, high) in
-      get_or_default other i d no_arc lt ∙ sym f.2 ∙ ap (λ n. get_or row n no_arc) e ∙ get_or_default row i no_arc d (omega (arith, lt, same))
+      let low = no_earlier row other rises also members i f.place lt f.known f.same in
+      let high = no_later (length other - i - 1) i f.place (omega (arith, lt)) f.known f.same in
+      let e : f.place ≡ i = omega (arith, low, high) in
+      get_or_default other i d no_arc lt ∙ sym f.same ∙ ap (λ n. get_or row n no_arc) e ∙ get_or_default row i no_arc d (omega (arith, lt, same))
 
   pub same_row : other ≡ row
   same_row = same_lists other row same at

@@ -35,7 +35,7 @@ other_wins val row f a v s is ok other (inl lt) = record {
   lowest = grow (λ b. f.value ≤ℤ val b) (λ b. v ≡ val b → a.object ≤ b.object) row a (λ b h e. omega (arith, ints)) s.least (λ _. omega arith);
   earliest = grow (λ b. f.value ≤ℤ val b) (λ b. v ≡ val b → a.object ≡ b.object → a.arc ≤ b.arc) row a (λ b h e _. omega (arith, ints)) s.least (λ _ _. omega arith);
   others = grow (λ b. f.value ≤ℤ val b) (λ b. b.object ≢ a.object → f.value ≤ℤ val b) row a (λ b h ne. h) s.least (λ ne. absurd (ne refl));
-  reached = inr (f.best, Contains-append_left row (a ∷ []) f.best s.listed, (λ e. other (sym e)), sym s.is_value, s.in_range);
+  reached = inr (record { arc = f.best; listed = Contains-append_left row (a ∷ []) f.best s.listed; other = λ e. other (sym e); value_is = sym s.is_value; in_range = s.in_range });
 }
 other_wins val row f a v s is ok other (inr tie) = record {
   listed = Contains-push row a;
@@ -45,7 +45,7 @@ other_wins val row f a v s is ok other (inr tie) = record {
   lowest = grow (λ b. f.value ≡ val b → f.best.object ≤ b.object) (λ b. v ≡ val b → a.object ≤ b.object) row a (λ b h e. omega (arith, h (sym tie.0 ∙ e), tie.1)) s.lowest (λ _. omega arith);
   earliest = grow (λ b. f.value ≡ val b → f.best.object ≤ b.object) (λ b. v ≡ val b → a.object ≡ b.object → a.arc ≤ b.arc) row a (λ b h e o. omega (arith, h (sym tie.0 ∙ e), tie.1)) s.lowest (λ _ _. omega arith);
   others = grow (λ b. f.value ≤ℤ val b) (λ b. b.object ≢ a.object → f.value ≤ℤ val b) row a (λ b h ne. h) s.least (λ ne. absurd (ne refl));
-  reached = inr (f.best, Contains-append_left row (a ∷ []) f.best s.listed, (λ e. other (sym e)), sym s.is_value, s.in_range);
+  reached = inr (record { arc = f.best; listed = Contains-append_left row (a ∷ []) f.best s.listed; other = λ e. other (sym e); value_is = sym s.is_value; in_range = s.in_range });
 }
 
 -- an arc to another object that isn't better
@@ -71,11 +71,11 @@ pub other_next : (val : RowArc → ℤ) (row : List RowArc) (f : Scan) (a : RowA
     → IsScan val (row ++ a ∷ []) (record { value = f.value; second = v; best = f.best })
 other_next val row f a v s is ok other loses lt = stays val row f a v v s is other loses
     (grow (λ b. b.object ≢ f.best.object → f.second ≤ℤ val b) (λ b. b.object ≢ f.best.object → v ≤ℤ val b) row a (λ b h ne. let g = h ne in omega (arith, ints)) s.others (λ _. omega (arith, ints)))
-    (inr (a, Contains-push row a, other, sym is, ok))
+    (inr (record { arc = a; listed = Contains-push row a; other = other; value_is = sym is; in_range = ok }))
 
 reached_other : (val : RowArc → ℤ) (row : List RowArc) (best a : RowArc) (v second : ℤ) → IsValue v → second ≤ℤ v → Reached val row best second → Reached val (row ++ a ∷ []) best second
 reached_other val row best a v second ok le (inl r) = absurd (omega (arith, ints, r.1, ok.high))
-reached_other val row best a v second ok le (inr r) = inr (r.0, Contains-append_left row (a ∷ []) r.0 r.1, r.2, r.3, r.4)
+reached_other val row best a v second ok le (inr r) = inr (record { arc = r.arc; listed = Contains-append_left row (a ∷ []) r.arc r.listed; other = r.other; value_is = r.value_is; in_range = r.in_range })
 
 pub other_loses : (val : RowArc → ℤ) (row : List RowArc) (f : Scan) (a : RowArc) (v : ℤ) → IsScan val row f → v ≡ val a → IsValue v → a.object ≢ f.best.object → Loses a v f → f.second ≤ℤ v
     → IsScan val (row ++ a ∷ []) f
@@ -88,7 +88,7 @@ row_whole val row i f le s = rw (take_all i row le) at s
 
 second_range : (val : RowArc → ℤ) (row : List RowArc) (a : RowArc) (second : ℤ) → second <ℤ endless → Reached val row a second → IsValue second
 second_range val row a second lt (inl r) = absurd (omega (arith, ints, r.1))
-second_range val row a second lt (inr r) = r.4
+second_range val row a second lt (inr r) = r.in_range
 
 pub second_is : (val : RowArc → ℤ) (row : List RowArc) (f : Scan) → IsScan val row f → f.second <ℤ endless → IsValue f.second
 second_is val row f h lt = second_range val row f.best f.second lt h.reached

@@ -37,7 +37,7 @@ decided_others val arcs bound f b s d (inr out) ne = let next = d.next in omega 
 
 decided_reached : (val : RowArc → ℤ) (row arcs : List RowArc) (bound : ℤ) (f : Scan) → All (Contains row) arcs → Decides bound f → Reached val arcs f.best f.second → Reached val row f.best f.second
 decided_reached val row arcs bound f members d (inl none) = let some = d.some in absurd (omega (arith, ints, none.1, some))
-decided_reached val row arcs bound f members d (inr r) = inr (r.0, All-contains (Contains row) arcs r.0 members r.1, r.2, r.3, r.4)
+decided_reached val row arcs bound f members d (inr r) = inr (record { arc = r.arc; listed = All-contains (Contains row) arcs r.arc members r.listed; other = r.other; value_is = r.value_is; in_range = r.in_range })
 
 pub decided_by : (val : RowArc → ℤ) (row arcs : List RowArc) (bound : ℤ) (f : Scan) → IsScan val arcs f → Decides bound f → All (Contains row) arcs → (arcs ≡ []) ⊎ All (λ b. Contains arcs b ⊎ (bound ≤ℤ val b)) row → IsScan val row f
 decided_by val row arcs bound f s d members (inl none) = absurd (omega (arith, s.listed.1, ap length none))

@@ -1,9 +1,10 @@
 -- Candidate lists: what they say of a row, which stays true while copies rise.
-use Rattle.std.specs.Prelude.{◌≡◌, ◌<◌, ◌+◌, ◌⊎◌, ℕ, ℤ, pos, ◌≤ℤ◌, ◌<ℤ◌, List, [], length, All, AllPairs, Contains}
+use Rattle.std.specs.Prelude.{◌≡◌, ◌<◌, ◌≤◌, ◌+◌, ◌^◌, ◌⊎◌, ℕ, Bool, true, ℤ, pos, ◌≤ℤ◌, ◌<ℤ◌, List, [], length, take, All, AllPairs, Contains}
 use Rattle.auc_graph.specs.declared.rows.RowArc.{RowArc}
 use Rattle.auc_graph.specs.Bid.{value}
 use Rattle.auc_graph.specs.Table.{Table, row_of}
 use Rattle.auc_persons.specs.declared.bidder.scan.Scan.{Scan}
+use Rattle.auc_persons.specs.Rising.{IsRisingRow}
 use Rattle.auc_persons.specs.Scan.{copy_in, endless}
 
 -- the candidate list of a person: some arcs of the row, and a bound
@@ -43,3 +44,13 @@ pub record Gathered (val : RowArc → ℤ) (seen arcs : List RowArc) (bound : �
   pub members : All (Contains seen) arcs
   pub rising : AllPairs (λ a b. a.arc < b.arc) arcs
   pub rest : All (λ b. Contains arcs b ⊎ (bound ≤ℤ val b)) seen
+
+-- the parts of a list of at most 24 arcs, of which the first `count` are in it: how far its next bound is above the
+-- second-best value, its bound, and whether its arcs rise by object
+pub record AreListParts (count : ℕ) (arcs : List RowArc) (delta bound : ℤ) (rises : Bool) : Type 0 where
+  pub few : count ≤ 24
+  pub room : length arcs ≡ 24
+  pub least : pos 1 ≤ℤ delta
+  pub most : delta ≤ℤ pos (2 ^ 60)
+  pub bounded : bound ≤ℤ pos (2 ^ 62)
+  pub rising : rises ≡ true → IsRisingRow (take count arcs)

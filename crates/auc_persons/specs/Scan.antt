@@ -16,11 +16,19 @@ pub record IsValue (v : ℤ) : Type 0 where
   pub low : neg_ℤ (pos (2 ^ 52)) ≤ℤ v
   pub high : v ≤ℤ pos (2 ^ 61 + 2 ^ 52)
 
+-- an arc of the row to another object, of this value
+pub record HasOther (val : RowArc → ℤ) (row : List RowArc) (a : RowArc) (second : ℤ) : Type 0 where
+  pub arc : RowArc
+  pub listed : Contains row arc
+  pub other : arc.object ≢ a.object
+  pub value_is : val arc ≡ second
+  pub in_range : IsValue second
+
 -- a value of an arc to another object, or `endless` where there is none
 abbrev pub Reached : (RowArc → ℤ) → List RowArc → RowArc → ℤ → Type 0
 Reached val row a second =
     (All (λ b. b.object ≡ a.object) row × (second ≡ endless))
-    ⊎ ((b : RowArc) × Contains row b × (b.object ≢ a.object) × (val b ≡ second) × IsValue second)
+    ⊎ HasOther val row a second
 
 -- the result of a pass over a row: its best arc, with ties by object and place, and the least value to another object
 pub record IsScan (val : RowArc → ℤ) (row : List RowArc) (f : Scan) : Type 0 where

@@ -2,11 +2,11 @@
 use Rattle.std.specs.Prelude.{◌≡◌, ◌≢◌, ◌<◌, ◌≤◌, ◌⊎◌, Bool, true, false, ℤ, ◌≤ℤ◌, ◌<ℤ◌, List, Contains}
 use Rattle.auc_graph.specs.declared.rows.RowArc.{RowArc}
 use Rattle.auc_persons.specs.declared.bidder.scan.Scan.{Scan}
-use Rattle.auc_persons.specs.Scan.{endless, IsValue}
+use Rattle.auc_persons.specs.Scan.{endless, HasOther, IsValue}
 
 -- a second value: `endless`, or that of an arc of the row to another object
 abbrev pub Met : (RowArc → ℤ) → List RowArc → RowArc → ℤ → Type 0
-Met val row a second = (second ≡ endless) ⊎ ((b : RowArc) × Contains row b × (b.object ≢ a.object) × (val b ≡ second) × IsValue second)
+Met val row a second = (second ≡ endless) ⊎ HasOther val row a second
 
 -- best and second are those of arcs of the row, which need not be the least
 pub record IsFound (val : RowArc → ℤ) (row : List RowArc) (f : Scan) : Type 0 where

@@ -23,16 +23,16 @@ use Rattle.auc_run.proofs.ProblemLaws.{known, are_known}
 
 module _ (w : Watched) (a b : Option (List ℕ)) where
   pub solved : (n : SolveNumbers) (answer : Result Answer Refusal) → IsSolvingIn w n a b answer → IsOutcome w (solve_by n) a b (reported Solved answer)
-  solved n answer h = (h.0, h.1, h.2, h.3, (answer, h.4, refl))
+  solved n answer h = record { file = h.file; cert = h.cert; file_known = h.file_known; cert_known = h.cert_known; borne = (answer, h.borne, refl) }
 
   pub judged : (sizes : Sizes) (verdict : Result Valid Refusal) → IsVerdict sizes a b verdict → IsOutcome w (Check sizes.objects sizes.large) a b (reported Judged verdict)
-  judged sizes verdict h = (h.0, h.1, h.2, h.3, (verdict, h.4, refl))
+  judged sizes verdict h = record { file = h.file; cert = h.cert; file_known = h.file_known; cert_known = h.cert_known; borne = (verdict, h.borne, refl) }
 
   pub completed : (sizes : Sizes) (found : Result Found Refusal) → IsFoundIn sizes a found → IsOutcome w (Hall sizes.objects sizes.large) a b (reported Completed found)
-  completed sizes found h = (h.0, known b, h.1, are_known b, (found, h.2, refl))
+  completed sizes found h = record { file = h.file; cert = known b; file_known = h.known; cert_known = are_known b; borne = (found, h.borne, refl) }
 
   pub replied : (replies : Result (List (Reply ℤ)) Refusal) → AreReplies a replies → IsOutcome w Mail a b (reported Replied replies)
-  replied replies h = (h.0, known b, h.1, are_known b, (replies, h.2, refl))
+  replied replies h = record { file = h.file; cert = known b; file_known = h.known; cert_known = are_known b; borne = (replies, h.borne, refl) }
 
   -- an outcome that is this refusal
   pub refused : (job : Job) (r : Result Report Refusal) (e : Refusal) → IsErrAnd r (λ x. x ≡ e) → IsOutcome w job a b (Err e) → IsOutcome w job a b r

@@ -35,14 +35,14 @@ not_started direct sizes a b (Err x) e p h = subst (λ (y : Refusal). IsStartIn 
 
 -- no problem was read
 no_problem : (direct : Bool) (sizes : Sizes) (a b : Option (List ℕ)) (e : Refusal) → IsProblemIn sizes a (Err e) → e ≢ NoMemoryForJob → IsStartIn direct sizes a b (Err e)
-no_problem direct sizes a b (NotRead fault) h other = absurd h.2
-no_problem direct sizes a b (NoProblem error) h other = (h.0, known b, h.1, are_known b, h.2)
-no_problem direct sizes a b (NoCertificate error) h other = absurd h.2
-no_problem direct sizes a b (Invalid error) h other = absurd h.2
-no_problem direct sizes a b (NoStart error) h other = absurd h.2
-no_problem direct sizes a b (NoScript error) h other = absurd h.2
+no_problem direct sizes a b (NotRead fault) h other = absurd h.borne
+no_problem direct sizes a b (NoProblem error) h other = record { file = h.file; cert = known b; file_known = h.known; cert_known = are_known b; borne = h.borne }
+no_problem direct sizes a b (NoCertificate error) h other = absurd h.borne
+no_problem direct sizes a b (Invalid error) h other = absurd h.borne
+no_problem direct sizes a b (NoStart error) h other = absurd h.borne
+no_problem direct sizes a b (NoScript error) h other = absurd h.borne
 no_problem direct sizes a b NoMemoryForJob h other = absurd (other refl)
-no_problem direct sizes a b NoThreads h other = absurd h.2
+no_problem direct sizes a b NoThreads h other = absurd h.borne
 
 pub problem_refused : (direct : Bool) (sizes : Sizes) (a b : Option (List ℕ)) (r : Result Started Refusal) (e : Refusal) → IsProblemIn sizes a (Err e) → e ≢ NoMemoryForJob → IsErrAnd r (λ x. x ≡ e) → IsStartIn direct sizes a b r
 problem_refused direct sizes a b r e h other p = not_started direct sizes a b r e p (no_problem direct sizes a b e h other)
@@ -50,7 +50,9 @@ problem_refused direct sizes a b r e h other p = not_started direct sizes a b r 
 -- the problem was read, and the certificate was not
 pub input_fails : (direct : Bool) (sizes : Sizes) (a b : Option (List ℕ)) (r : Result Started Refusal) (problem : Problem) (e : ReadFault) → IsProblemIn sizes a (Ok problem) → (e ≡ TooManyReads → IfSome b (λ bytes. MOST_READS ≤ length bytes))
     → IsErrAnd r (λ x. x ≡ NotRead e) → IsStartIn direct sizes a b r
-input_fails direct sizes a b r problem e h many p = let cert = unread b e many in not_started direct sizes a b r (NotRead e) p (h.0, cert.0, h.1, cert.1, (problem, h.2, cert.2))
+input_fails direct sizes a b r problem e h many p =
+    let cert = unread b e many in
+    not_started direct sizes a b r (NotRead e) p (record { file = h.file; cert = cert.file; file_known = h.known; cert_known = cert.known; borne = (problem, h.borne, cert.borne) })
 
 -- both were read, and the prices can't start a solve
 no_prices : (direct : Bool) (sizes : Sizes) (file cert : List ℕ) (p : Problem) (claim : CertParts) (e : StartError) → IsProblemOf sizes file p → IsClaimFor sizes.large cert claim → (e ≢ NoMemoryToStart → Err e ≡ start_for direct p claim) → BearOutStartError direct sizes file cert e
@@ -62,7 +64,8 @@ no_prices direct sizes file cert p claim NoMemoryToStart a b is = tt
 
 pub prices_refused : (direct : Bool) (sizes : Sizes) (a b : Option (List ℕ)) (r : Result Started Refusal) (p : Problem) (bytes : List ℕ) (claim : CertParts) (e : StartError) → IsProblemIn sizes a (Ok p) → AreKnown b bytes → IsClaimFor sizes.large bytes claim
     → (e ≢ NoMemoryToStart → Err e ≡ start_for direct p claim) → IsErrAnd r (λ x. x ≡ NoStart e) → IsStartIn direct sizes a b r
-prices_refused direct sizes a b r p bytes claim e h k spells is refused = not_started direct sizes a b r (NoStart e) refused (h.0, bytes, h.1, k, no_prices direct sizes h.0 bytes p claim e h.2 spells is)
+prices_refused direct sizes a b r p bytes claim e h k spells is refused =
+    not_started direct sizes a b r (NoStart e) refused (record { file = h.file; cert = bytes; file_known = h.known; cert_known = k; borne = no_prices direct sizes h.file bytes p claim e h.borne spells is })
 
 -- ---- solving
 
@@ -77,7 +80,7 @@ is_direct false e = absurd (false≢true (sym e))
 
 pub answered : (w : Watched) (n : SolveNumbers) (a b : Option (List ℕ)) (s : Started) (answer : Answer)
     → IsStartIn n.direct n.sizes a b (Ok s) → AnswersFrom n.direct w n s.problem s.prices.items answer → IsSolvedFromIn w n a b (Ok answer)
-answered w n a b s answer h is = (h.0, h.1, h.2, h.3, (s.problem, s.prices.items, h.4, is))
+answered w n a b s answer h is = record { file = h.file; cert = h.cert; file_known = h.file_known; cert_known = h.cert_known; borne = (s.problem, s.prices.items, h.borne, is) }
 
 no_start_borne : (w : Watched) (n : SolveNumbers) (file cert : List ℕ) (e : Refusal) → BearOutNoStart n.direct n.sizes file cert e → BearOutFrom w n file cert (Err e)
 no_start_borne w n file cert (NotRead fault) h = h
@@ -92,7 +95,7 @@ no_start_borne w n file cert NoThreads h = absurd h
 pub unstarted : (w : Watched) (n : SolveNumbers) (a b : Option (List ℕ)) (r : Result Answer Refusal) (e : Refusal) → IsStartIn n.direct n.sizes a b (Err e) → IsErrAnd r (λ x. x ≡ e) → IsSolvedFromIn w n a b r
 unstarted w n a b (Ok x) e h p = absurd p
 unstarted w n a b (Err x) e h p =
-    subst (λ (y : Refusal). IsSolvedFromIn w n a b (Err y)) (sym p) (h.0, h.1, h.2, h.3, no_start_borne w n h.0 h.1 e h.4)
+    subst (λ (y : Refusal). IsSolvedFromIn w n a b (Err y)) (sym p) (record { file = h.file; cert = h.cert; file_known = h.file_known; cert_known = h.cert_known; borne = no_start_borne w n h.file h.cert e h.borne })
 
 -- what holds of a direct solve, by messages alone, and in threads
 pub direct_solve : (direct : Bool) (w : Watched) (n : SolveNumbers) (p : Problem) (start : List ℤ) (answer : Answer) → direct ≡ true
@@ -134,28 +137,28 @@ in_threads (suc k) n file answer some h = h
 module _ (w : Watched) (n : SolveNumbers) (a b : Option (List ℕ)) (answer : Result Answer Refusal) (fresh : n.from ≡ false) where
   from_nothing : (file : List ℕ) → AreKnown a file → BearOutSolving false n.direct w n file (known b) answer → IsSolvingIn w n a b answer
   from_nothing file is h =
-      (file, known b, is, are_known b, subst (λ (from : Bool). BearOutSolving from n.direct w n file (known b) answer) (sym fresh) h)
+      record { file = file; cert = known b; file_known = is; cert_known = are_known b; borne = subst (λ (from : Bool). BearOutSolving from n.direct w n file (known b) answer) (sym fresh) h }
 
   by_messages : n.direct ≡ false → (file : List ℕ) → AreKnown a file → BearOutMessages n.workers n file answer → IsSolvingIn w n a b answer
   by_messages messages file is h =
       from_nothing file is (subst (λ (direct : Bool). BearOutSolving false direct w n file (known b) answer) (sym messages) h)
 
   pub plainly : n.direct ≡ false → n.workers ≡ 0 → IsSolvedIn n a answer → IsSolvingIn w n a b answer
-  plainly messages none h = by_messages messages h.0 h.1 (without_threads n.workers n h.0 answer none h.2)
+  plainly messages none h = by_messages messages h.file h.known (without_threads n.workers n h.file answer none h.borne)
 
   pub by_threads : n.direct ≡ false → 1 ≤ n.workers → IsSolvedByThreadsIn n a answer → IsSolvingIn w n a b answer
-  by_threads messages some h = by_messages messages h.0 h.1 (in_threads n.workers n h.0 answer some h.2)
+  by_threads messages some h = by_messages messages h.file h.known (in_threads n.workers n h.file answer some h.borne)
 
   pub directly : n.direct ≡ true → IsDirectIn w n a answer → IsSolvingIn w n a b answer
   directly direct h =
-      from_nothing h.0 h.1 (subst (λ (x : Bool). BearOutSolving false x w n h.0 (known b) answer) (sym direct) h.2)
+      from_nothing h.file h.known (subst (λ (x : Bool). BearOutSolving false x w n h.file (known b) answer) (sym direct) h.borne)
 
 -- ---- from a start
 
 pub from_start : (w : Watched) (n : SolveNumbers) (a b : Option (List ℕ)) (answer : Result Answer Refusal) → n.from ≡ true
     → IsSolvedFromIn w n a b answer → IsSolvingIn w n a b answer
 from_start w n a b answer from h =
-    (h.0, h.1, h.2, h.3, subst (λ (x : Bool). BearOutSolving x n.direct w n h.0 h.1 answer) (sym from) h.4)
+    record { file = h.file; cert = h.cert; file_known = h.file_known; cert_known = h.cert_known; borne = subst (λ (x : Bool). BearOutSolving x n.direct w n h.file h.cert answer) (sym from) h.borne }
 
 -- ---- who watches
 

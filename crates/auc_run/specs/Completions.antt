@@ -12,7 +12,7 @@ use Rattle.auc_run.specs.declared.found.Found.{Found}
 use Rattle.auc_run.specs.declared.found.Found.TheVariants.{Full, Hall}
 use Rattle.auc_run.specs.declared.refusal.Refusal.{Refusal}
 use Rattle.auc_cert.specs.Writing.{counted}
-use Rattle.auc_run.specs.Problems.{AreKnown, BearOutRefusal, IsProblemOf}
+use Rattle.auc_run.specs.Problems.{BearOutRefusal, HasFile, IsProblemOf}
 
 abbrev pub IsFound : Problem → Found → Type 0
 IsFound p (Full choice) = IsAssignment p (chosen 0 choice)
@@ -25,7 +25,7 @@ BearOutFound sizes file (Err refusal) = BearOutRefusal sizes file refusal
 
 -- what was found in the problem that a reader has
 abbrev pub IsFoundIn : Sizes → Option (List ℕ) → Result Found Refusal → Type 0
-IsFoundIn sizes reader found = (file : List ℕ) × AreKnown reader file × BearOutFound sizes file found
+IsFoundIn sizes reader found = HasFile reader (λ file. BearOutFound sizes file found)
 
 -- no more picks than a problem can have persons
 abbrev pub IsSmall : Found → Type 0

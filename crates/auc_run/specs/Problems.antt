@@ -62,6 +62,20 @@ IsProblemOf sizes file p = ReadsAsProblem sizes file (Ok p)
 abbrev pub AreKnown : Option (List ℕ) → List ℕ → Type 0
 AreKnown known bytes = IfSome known (λ xs. bytes ≡ xs)
 
+-- what a reader has bears this out; bytes that it does not give are some bytes
+pub record HasFile (reader : Option (List ℕ)) (Borne : List ℕ → Type 0) : Type 0 where
+  pub file : List ℕ
+  pub known : AreKnown reader file
+  pub borne : Borne file
+
+-- the same of a problem and a certificate, which two readers have
+pub record HaveFiles (first second : Option (List ℕ)) (Borne : List ℕ → List ℕ → Type 0) : Type 0 where
+  pub file : List ℕ
+  pub cert : List ℕ
+  pub file_known : AreKnown first file
+  pub cert_known : AreKnown second cert
+  pub borne : Borne file cert
+
 -- The bytes of an input that is read whole bear out why it was not read to its end: too many reads have each taken a
 -- byte. Of a read that failed, and of want of memory, nothing is known.
 abbrev pub BearOutInput : List ℕ → InputFault → Type 0
@@ -88,4 +102,4 @@ BearOutProblem sizes file (Err refusal) = BearOutRefusal sizes file refusal
 
 -- the problem that a reader has
 abbrev pub IsProblemIn : Sizes → Option (List ℕ) → Result Problem Refusal → Type 0
-IsProblemIn sizes reader problem = (file : List ℕ) × AreKnown reader file × BearOutProblem sizes file problem
+IsProblemIn sizes reader problem = HasFile reader (λ file. BearOutProblem sizes file problem)

@@ -6,7 +6,7 @@ use Rattle.auc_run.specs.declared.refusal.Refusal.TheVariants.{NotRead, NoProble
 use Rattle.auc_script.specs.declared.script.Script.{Script}
 use Rattle.auc_script.specs.Script.{ReadsAsScript}
 use Rattle.auc_script.specs.Replies.{AreRepliesTo}
-use Rattle.auc_run.specs.Problems.{AreKnown, BearOutInput}
+use Rattle.auc_run.specs.Problems.{BearOutInput, HasFile}
 
 -- The bytes of a script bear the replies out, or the refusal. Of a read that failed and of want of memory nothing is
 -- known.
@@ -23,4 +23,4 @@ BearOutReplies file (Err NoThreads) = ⊥
 
 -- replies on what a reader has
 abbrev pub AreReplies : Option (List ℕ) → Result (List (Reply ℤ)) Refusal → Type 0
-AreReplies reader replies = (file : List ℕ) × AreKnown reader file × BearOutReplies file replies
+AreReplies reader replies = HasFile reader (λ file. BearOutReplies file replies)

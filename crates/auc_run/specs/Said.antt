@@ -13,7 +13,7 @@ use Rattle.auc_run.specs.declared.refusal.Refusal.{Refusal}
 use Rattle.auc_run.specs.declared.report.Report.{Report}
 use Rattle.auc_run.specs.declared.report.Report.TheVariants.{Solved, Judged, Completed, Replied}
 use Rattle.auc_run.specs.declared.valid.Valid.{Valid}
-use Rattle.auc_run.specs.Problems.{AreKnown, sizes_with}
+use Rattle.auc_run.specs.Problems.{HaveFiles, sizes_with}
 use Rattle.auc_run.specs.Verdicts.{BearOut}
 use Rattle.auc_run.specs.Completions.{BearOutFound}
 use Rattle.auc_run.specs.Solutions.{Watched, onward}
@@ -43,20 +43,21 @@ BearOutJob w Mail file cert outcome =
 
 -- an outcome of the job on what two readers have; bytes that a reader does not tell are some bytes
 abbrev pub IsOutcome : Watched → Job → Option (List ℕ) → Option (List ℕ) → Result Report Refusal → Type 0
-IsOutcome w job first second outcome =
-    (file : List ℕ) × (cert : List ℕ) × AreKnown first file × AreKnown second cert × BearOutJob w job file cert outcome
+IsOutcome w job first second outcome = HaveFiles first second (λ file cert. BearOutJob w job file cert outcome)
 
 -- a job that nobody watches wrote, after what the writer had, the text of an outcome on what the two readers had, and
 -- gave its status
-abbrev pub Said : Job → Option (List ℕ) → Option (List ℕ) → Option (List ℕ) → Option (List ℕ) → ℕ → Type 0
-Said job first second before after status =
-    (outcome : Result Report Refusal) × IsOutcome onward job first second outcome × Appends before after (outcome_text outcome)
-    × (status ≡ outcome_status outcome)
+pub record Said (job : Job) (first second before after : Option (List ℕ)) (status : ℕ) : Type 0 where
+  pub outcome : Result Report Refusal
+  pub is : IsOutcome onward job first second outcome
+  pub text : Appends before after (outcome_text outcome)
+  pub status_is : status ≡ outcome_status outcome
 
 -- it wrote a beginning of the text of an outcome on what the two readers had, and not all of it
-abbrev pub SaidInPart : Job → Option (List ℕ) → Option (List ℕ) → Option (List ℕ) → Option (List ℕ) → Type 0
-SaidInPart job first second before after =
-    (outcome : Result Report Refusal) × IsOutcome onward job first second outcome × Begins before after (outcome_text outcome)
+pub record SaidInPart (job : Job) (first second before after : Option (List ℕ)) : Type 0 where
+  pub outcome : Result Report Refusal
+  pub is : IsOutcome onward job first second outcome
+  pub text : Begins before after (outcome_text outcome)
 
 -- How a job ended that has this outcome: its text stands after what the writer had, or a beginning of it where the
 -- status says so; and the refusal, and the limit that ended a search, are the outcome's.
@@ -67,6 +68,7 @@ pub record EndsBy (before after : Option (List ℕ)) (outcome : Result Report Re
   pub reason : ending.reason ≡ reason_of outcome
 
 -- a job ended so, by an outcome on what the two readers had
-abbrev pub Ended : Watched → Job → Option (List ℕ) → Option (List ℕ) → Option (List ℕ) → Option (List ℕ) → Ending → Type 0
-Ended w job first second before after ending =
-    (outcome : Result Report Refusal) × IsOutcome w job first second outcome × EndsBy before after outcome ending
+pub record Ended (w : Watched) (job : Job) (first second before after : Option (List ℕ)) (ending : Ending) : Type 0 where
+  pub outcome : Result Report Refusal
+  pub is : IsOutcome w job first second outcome
+  pub ends : EndsBy before after outcome ending

@@ -16,7 +16,7 @@ use Rattle.auc_threads.specs.Solved.{IsSolvedBy, IsThreadAnswer}
 use Rattle.auc_run.specs.declared.command.SolveNumbers.{SolveNumbers}
 use Rattle.auc_run.specs.declared.refusal.Refusal.{Refusal}
 use Rattle.auc_run.specs.declared.refusal.Refusal.TheVariants.{NotRead, NoProblem, NoCertificate, Invalid, NoStart, NoScript, NoMemory, NoThreads}
-use Rattle.auc_run.specs.Problems.{AreKnown, BearOutRefusal, IsProblemOf}
+use Rattle.auc_run.specs.Problems.{BearOutRefusal, HasFile, IsProblemOf}
 
 -- the limits of a solve without threads: one shard of each kind, so many bids, and else the usual numbers
 abbrev pub limits_of : ℕ → Limits
@@ -85,15 +85,15 @@ BearOutMessages (suc workers) n file answer = BearOutThreads n file answer
 
 -- what was answered in threads about the problem that a reader has
 abbrev pub IsSolvedByThreadsIn : SolveNumbers → Option (List ℕ) → Result Answer Refusal → Type 0
-IsSolvedByThreadsIn n reader answer = (file : List ℕ) × AreKnown reader file × BearOutThreads n file answer
+IsSolvedByThreadsIn n reader answer = HasFile reader (λ file. BearOutThreads n file answer)
 
 -- what was answered directly about the problem that a reader has
 abbrev pub IsDirectIn : Watched → SolveNumbers → Option (List ℕ) → Result Answer Refusal → Type 0
-IsDirectIn w n reader answer = (file : List ℕ) × AreKnown reader file × BearOutDirect w n file answer
+IsDirectIn w n reader answer = HasFile reader (λ file. BearOutDirect w n file answer)
 
 -- what was answered about the problem that a reader has
 abbrev pub IsSolvedIn : SolveNumbers → Option (List ℕ) → Result Answer Refusal → Type 0
-IsSolvedIn n reader answer = (file : List ℕ) × AreKnown reader file × BearOutSolved n file answer
+IsSolvedIn n reader answer = HasFile reader (λ file. BearOutSolved n file answer)
 
 abbrev pub guard_line : Guard → List ℕ
 guard_line Fell = codes "broken fell\n"

@@ -19,7 +19,7 @@ use Rattle.auc_run.specs.declared.command.SolveNumbers.{SolveNumbers}
 use Rattle.auc_run.specs.declared.refusal.Refusal.{Refusal}
 use Rattle.auc_run.specs.declared.refusal.Refusal.TheVariants.{NotRead, NoProblem, NoCertificate, Invalid, NoStart, NoScript, NoMemory as NoMemoryForJob, NoThreads}
 use Rattle.auc_run.specs.declared.start.Started.{Started}
-use Rattle.auc_run.specs.Problems.{AreKnown, BearOutInput, IsProblemOf, ReadsAsProblem}
+use Rattle.auc_run.specs.Problems.{BearOutInput, HaveFiles, IsProblemOf, ReadsAsProblem}
 use Rattle.auc_run.specs.Solutions.{BearOutDirect, BearOutMessages, IsHeeded, Watched, limits_of, thread_limits_of}
 use Rattle.auc_run.specs.Claims.{IsBadLineFor, IsClaimFor}
 
@@ -83,9 +83,7 @@ BearOutStart direct sizes file cert (Err refusal) = BearOutNoStart direct sizes 
 
 -- a problem and a start that two readers have, or why there is none
 abbrev pub IsStartIn : Bool → Sizes → Option (List ℕ) → Option (List ℕ) → Result Started Refusal → Type 0
-IsStartIn direct sizes first second started =
-    (file : List ℕ) × (cert : List ℕ) × AreKnown first file × AreKnown second cert
-    × BearOutStart direct sizes file cert started
+IsStartIn direct sizes first second started = HaveFiles first second (λ file cert. BearOutStart direct sizes file cert started)
 
 -- an answer of a run by messages from these prices: by threads where there are so many workers, and not 0
 abbrev pub MessagesFrom : ℕ → SolveNumbers → Problem → List ℤ → Answer → Type 0
@@ -119,8 +117,7 @@ BearOutFrom w n file cert (Err (NoScript error)) = ⊥
 
 -- what a solve from a start has answered about what two readers have
 abbrev pub IsSolvedFromIn : Watched → SolveNumbers → Option (List ℕ) → Option (List ℕ) → Result Answer Refusal → Type 0
-IsSolvedFromIn w n first second answer =
-    (file : List ℕ) × (cert : List ℕ) × AreKnown first file × AreKnown second cert × BearOutFrom w n file cert answer
+IsSolvedFromIn w n first second answer = HaveFiles first second (λ file cert. BearOutFrom w n file cert answer)
 
 -- a solve starts from an old certificate, or from nothing: then directly, or by messages
 abbrev pub BearOutSolving : Bool → Bool → Watched → SolveNumbers → List ℕ → List ℕ → Result Answer Refusal → Type 0
@@ -130,6 +127,4 @@ BearOutSolving false false w n file cert answer = BearOutMessages n.workers n fi
 
 -- what a solve has answered about what two readers have
 abbrev pub IsSolvingIn : Watched → SolveNumbers → Option (List ℕ) → Option (List ℕ) → Result Answer Refusal → Type 0
-IsSolvingIn w n first second answer =
-    (file : List ℕ) × (cert : List ℕ) × AreKnown first file × AreKnown second cert
-    × BearOutSolving n.from n.direct w n file cert answer
+IsSolvingIn w n first second answer = HaveFiles first second (λ file cert. BearOutSolving n.from n.direct w n file cert answer)

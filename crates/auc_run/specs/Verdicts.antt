@@ -14,7 +14,7 @@ use Rattle.auc_run.specs.declared.command.Sizes.{Sizes}
 use Rattle.auc_run.specs.declared.refusal.Refusal.{Refusal}
 use Rattle.auc_run.specs.declared.refusal.Refusal.TheVariants.{NotRead, NoProblem, NoCertificate, Invalid, NoStart, NoScript, NoMemory as NoMemoryForJob, NoThreads}
 use Rattle.auc_run.specs.declared.valid.Valid.{Valid}
-use Rattle.auc_run.specs.Problems.{AreKnown, BearOutInput, IsProblemOf, ReadsAsProblem}
+use Rattle.auc_run.specs.Problems.{BearOutInput, HaveFiles, IsProblemOf, ReadsAsProblem}
 
 -- what a claim says, in short
 abbrev pub said_by : CertParts → Valid
@@ -58,5 +58,4 @@ BearOut sizes file cert (Err NoThreads) = ⊥
 
 -- a verdict on what two readers have
 abbrev pub IsVerdict : Sizes → Option (List ℕ) → Option (List ℕ) → Result Valid Refusal → Type 0
-IsVerdict sizes first second verdict =
-    (file : List ℕ) × (cert : List ℕ) × AreKnown first file × AreKnown second cert × BearOut sizes file cert verdict
+IsVerdict sizes first second verdict = HaveFiles first second (λ file cert. BearOut sizes file cert verdict)

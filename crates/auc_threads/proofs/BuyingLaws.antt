@@ -26,8 +26,8 @@ use Rattle.auc_threads.proofs.StepLaws.{posts_bids}
 
 pub plays_then : (t : Table) (eps : ℤ) (s m n : Persons) (xs ys : List Act) → Plays t eps s xs m → Plays t eps m ys n → Plays t eps s (xs ++ ys) n
 plays_then t eps s m n [] ys f g = subst (λ (z : Persons). Plays t eps z ys n) f g
-plays_then t eps s m n (Hear x ∷ xs) ys f g = (f.0, f.1, plays_then t eps f.0 m n xs ys f.2 g)
-plays_then t eps s m n (Make o ∷ xs) ys f g = (f.0, f.1, plays_then t eps f.0 m n xs ys f.2 g)
+plays_then t eps s m n (Hear x ∷ xs) ys f g = record { next = f.next; by = f.by; on = plays_then t eps f.next m n xs ys f.on g }
+plays_then t eps s m n (Make o ∷ xs) ys f g = record { next = f.next; by = f.by; on = plays_then t eps f.next m n xs ys f.on g }
 
 heard_append : (xs ys : List Act) → heard_in (xs ++ ys) ≡ heard_in xs ++ heard_in ys
 heard_append [] ys = refl
@@ -65,11 +65,11 @@ heard_bids s n (Letter.Stop y) h = absurd (let e = h.0 in cc)
 
 plays_bids : (t : Table) (eps : ℤ) (s n : Persons) (acts : List Act) → Plays t eps s acts n → n.bids + length (made_in acts) ≡ s.bids
 plays_bids t eps s n [] f = omega (arith, ap (λ (z : Persons). z.bids) f)
-plays_bids t eps s n (Hear x ∷ acts) f = omega (arith, plays_bids t eps f.0 n acts f.2, heard_bids s f.0 x f.1)
+plays_bids t eps s n (Hear x ∷ acts) f = omega (arith, plays_bids t eps f.next n acts f.on, heard_bids s f.next x f.by)
 plays_bids t eps s n (Make o ∷ acts) f =
-    let some = f.1.1 in
-    let used : f.0.bids ≡ s.bids - 1 = ap (λ (z : Persons). z.bids) f.1.2.5 in
-    omega (arith, plays_bids t eps f.0 n acts f.2, some, used)
+    let some = f.by.1 in
+    let used : f.next.bids ≡ s.bids - 1 = ap (λ (z : Persons). z.bids) f.by.2.5 in
+    omega (arith, plays_bids t eps f.next n acts f.on, some, used)
 
 -- where the worker had made no call of that mail, its seat there counts no more bids than it made
 pub bids_made : (t : Table) (eps : ℤ) (r : Rooms) (at : ℕ) (old new : Worker Persons) (step : Step) → (f : Buys (round t eps) r at old new step) → old.seats.objects.count ≡ 0 → new.seats.objects.count ≤ length (made_in f.acts)
@@ -93,7 +93,7 @@ none_left t eps n fault h =
       | inr other ↦
           elim other [
             | inl trail ↦ absurd (let e = trail.1 in cc)
-            | inr heard ↦ absurd (no_fault heard.1 heard.3)
+            | inr heard ↦ absurd (no_fault heard.found heard.why_is)
           ]
     ]
   where
@@ -126,7 +126,7 @@ asks_end t eps s m n old bids step f e after = record { acts = f.acts; plays = s
 
 pub asks_more : (t : Table) (eps : ℤ) (s m n : Persons) (old bids new : List Out) (o : Out) → Asks (round t eps) (asker s old) (asker m bids) Step.On → NextBid t eps m (Bidding.Out o) n → new ≡ bids ++ o ∷ [] → Asks (round t eps) (asker s old) (asker n new) Step.On
 asks_more t eps s m n old bids new o f next pushed =
-    let one : Plays t eps m (Make o ∷ []) n = (n, next, refl) in
+    let one : Plays t eps m (Make o ∷ []) n = record { next = n; by = next; on = refl } in
     record {
       acts = f.acts ++ Make o ∷ [];
       plays = plays_then t eps s m n f.acts (Make o ∷ []) f.plays one;
@@ -138,7 +138,7 @@ asks_more t eps s m n old bids new o f next pushed =
 -- ---- listening
 
 pub listens_ok : (t : Table) (eps : ℤ) (s n : Persons) (x : Letter) (u : Unit {0}) → OnLetter s x (Ok u) n → ListensTo (round t eps) s (x ∷ []) n Step.On
-listens_ok t eps s n x u on = record { acts = Hear x ∷ []; fault = []; plays = (n, on, refl); made = refl; letters_are = refl; after = refl }
+listens_ok t eps s n x u on = record { acts = Hear x ∷ []; fault = []; plays = record { next = n; by = on; on = refl }; made = refl; letters_are = refl; after = refl }
 
 pub listens_fault : (t : Table) (eps : ℤ) (s n : Persons) (x : Letter) (f : PersonFault) (why : Why) → OnLetter s x (Err f) n → n ≡ s → why ≡ reason_for f → ListensTo (round t eps) s (x ∷ []) n (Step.Stop why)
 listens_fault t eps s n x f why on e is = record {
@@ -147,7 +147,7 @@ listens_fault t eps s n x f why on e is = record {
   plays = e;
   made = refl;
   letters_are = refl;
-  after = inr (inr (x, f, refl, is, subst (λ (z : Persons). OnLetter z x (Err f) n) (sym e) on));
+  after = inr (inr (record { letter = x; found = f; fault_is = refl; why_is = is; heard = subst (λ (z : Persons). OnLetter z x (Err f) n) (sym e) on }));
 }
 
 pub listens_then : (t : Table) (eps : ℤ) (s m n : Persons) (xs ys : List Letter) (step : Step) → ListensTo (round t eps) s xs m Step.On → ListensTo (round t eps) m ys n step → ListensTo (round t eps) s (xs ++ ys) n step

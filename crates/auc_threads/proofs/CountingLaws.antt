@@ -96,11 +96,11 @@ module _ (room persons : ℕ) (h n : Counting) (a b c : Account Letter) (r : Ans
   pub counts_more : Counted persons h r Heard.On n → CountsOn room persons n a c
   counts_more heard = record {
     heard = k.heard ++ r ∷ [];
-    firsts = All-push GaveFirst k.heard r k.firsts heard.0;
+    firsts = All-push GaveFirst k.heard r k.firsts heard.first;
     takes = takes_are;
-    counted = let more = heard.1 in omega (arith, more, firsts_are, first_counts r heard.0);
-    fewer = heard.2;
-    going = heard.3;
+    counted = let more = heard.more in omega (arith, more, firsts_are, first_counts r heard.first);
+    fewer = heard.fewer;
+    going = heard.going;
   }
 
   pub counts_all : (d : Account Letter) → Counted persons h r Heard.All n → Closes room 1 c d → Counts room persons a true None d

@@ -136,7 +136,7 @@ deals_stray eps s t x more e none unfit = record {
   fit = All-nil (Fits s);
   left = e;
   said_are = none;
-  after = (x, refl, subst (λ (z : Objects). (bid : Bid) → IsBidIn z x bid → ⊥) (sym e) unfit);
+  after = record { letter = x; stray_is = refl; unfit = subst (λ (z : Objects). (bid : Bid) → IsBidIn z x bid → ⊥) (sym e) unfit };
 }
 
 pub deals_bid : (eps : ℤ) (s t : Objects) (x : Letter) (bid : Bid) (more : List Out) → IsBidIn s x bid → t ≡ after_bid s eps bid → more ≡ says eps s bid → DealsWith eps s (x ∷ []) more t Step.On

@@ -28,10 +28,10 @@ pub hears_none : (s t : Persons) (fell : Type 0) → t.copies ≡ s.copies → (
 hears_none s t fell e never = record { heard = λ j. inl (ap (λ xs. get_or xs j (pos 0)) e); rise = rises_equal s.copies t.copies e; falls = λ f. absurd (never f) }
 
 told_left : (xs ys : List Letter) (j : ℕ) (p : ℤ) → IsTold xs j p → IsTold (xs ++ ys) j p
-told_left xs ys j p t = (t.0, Contains-append_left xs ys t.0 t.1, t.2)
+told_left xs ys j p t = record { letter = t.letter; listed = Contains-append_left xs ys t.letter t.listed; tells = t.tells }
 
 told_right : (xs ys : List Letter) (j : ℕ) (p : ℤ) → IsTold ys j p → IsTold (xs ++ ys) j p
-told_right xs ys j p t = (t.0, Contains-append_right xs ys t.0 t.1, t.2)
+told_right xs ys j p t = record { letter = t.letter; listed = Contains-append_right xs ys t.letter t.listed; tells = t.tells }
 
 falls_later : (s t : Persons) (xs ys : List Letter) → ((j : ℕ) → (copy_of t j ≡ copy_of s j) ⊎ IsTold xs j (copy_of t j)) → Falls (copy_of t) ys → Falls (copy_of s) (xs ++ ys)
 falls_later s t xs ys heard f = record {
@@ -47,9 +47,9 @@ falls_later s t xs ys heard f = record {
         | inl low ↦
             elim (heard f.object) [
               | inl same ↦ inl (subst (λ (c : ℤ). f.price <ℤ c) same low)
-              | inr told ↦ inr (copy_of t f.object, told_left xs f.front f.object (copy_of t f.object) told, low)
+              | inr told ↦ inr (record { earlier = copy_of t f.object; told = told_left xs f.front f.object (copy_of t f.object) told; above = low })
             ]
-        | inr later ↦ inr (later.0, told_right xs f.front f.object later.0 later.1, later.2)
+        | inr later ↦ inr (record { earlier = later.earlier; told = told_right xs f.front f.object later.earlier later.told; above = later.above })
       ];
 }
 
@@ -130,7 +130,7 @@ set_of s t x j p fell e known tells rise never = record {
       elim (cases_eq k j) [
         | inl here ↦ (
             let told : copy_of t j ≡ p = ap (λ xs. get_or xs j (pos 0)) e ∙ get_or-set_same s.copies j p (pos 0) known in
-            inr (subst (λ (m : ℕ). IsTold (x ∷ []) m (copy_of t m)) (sym here) (x, Contains-push [] x, subst (λ (c : ℤ). Tells j c x) (sym told) tells)))
+            inr (subst (λ (m : ℕ). IsTold (x ∷ []) m (copy_of t m)) (sym here) (record { letter = x; listed = Contains-push [] x; tells = subst (λ (c : ℤ). Tells j c x) (sym told) tells })))
         | inr ne ↦ inl (ap (λ xs. get_or xs k (pos 0)) e ∙ get_or-set_other s.copies j k p (pos 0) ne)
       ];
   rise = rise;

@@ -6,7 +6,7 @@ use Rattle.std.proofs.lemmas.List.Elements.{All-cons, All-head, All-nil, All-tai
 use Rattle.auc_threads.specs.Hearing.{Falls, SomebodyStuck}
 use Rattle.std.proofs.lemmas.List.{length-map}
 use Rattle.auc_threads.specs.Counting.{Closes, Counts, firsts_in}
-use Rattle.auc_threads.specs.Worked.{AreWorked, IsHub, audited, end_by, first_some}
+use Rattle.auc_threads.specs.Worked.{AreWorked, IsHub, IsWhyOfOne, audited, end_by, first_some}
 use Rattle.auc_threads.proofs.BuyingLaws.{bids_few, bids_made, bids_spent}
 use Rattle.auc_threads.proofs.StepLaws.{why_stop}
 use Rattle.auc_threads.proofs.WorkedLaws.{AreTrue, buyer_told, first_whose, is_noted, seller_told, stopped_for, value_at}
@@ -80,15 +80,15 @@ module _ {O P H : Type 0} (g : Setting) (r : Rooms) (xs : List (ObjectWork O P H
       let q = j % g.limits.shards in
       let known : q < length xs = omega (arith, many, some) in
       let at = placed_some Sold 0 xs q results known in
-      let x = at.0 in
-      let is : Sold q x = subst (λ (m : ℕ). Sold m x) (omega arith) at.1 in
-      let here : Gathers x.shard j price holder = subst (λ (w : ObjectWork O P H). Gathers w.shard j price holder) (at.2 x) (got x) in
+      let x = at.element in
+      let is : Sold q x = subst (λ (m : ℕ). Sold m x) (omega arith) at.holds in
+      let here : Gathers x.shard j price holder = subst (λ (w : ObjectWork O P H). Gathers w.shard j price holder) (at.there x) (got x) in
       let begun = (new_seller g q).shard in
       let owns : Owns begun j = record { known = low; own = refl } in
       let start : sale_of begun j ≡ unsold g.prices j = ap (λ (o : Option Held). record { price = price_in g.prices j; holder = o }) (replicate_default (length g.prices) j None) in
       let told : letters_in x.seats.objects.lines ≡ is.sells.letters = took_told r.objects _ _ x.seats.objects is.sells.letters is.sells.took room in
       let lines : lines_of (g.limits.shards + q) trail ≡ x.seats.objects.lines =
-      ap (λ (m : ℕ). lines_of m trail) (sym is.seats.objects_seat) ∙ subst (λ (w : ObjectWork O P H). Agrees trail w.seats.objects) (at.2 x) (agree q x known) in
+      ap (λ (m : ℕ). lines_of m trail) (sym is.seats.objects_seat) ∙ subst (λ (w : ObjectWork O P H). Agrees trail w.seats.objects) (at.there x) (agree q x known) in
       ap (λ (z : ℤ). record { price = z; holder = holder }) here.price_is
       ∙ (ap (λ (o : Option Held). record { price = price_of x.shard j; holder = o }) here.holder_is
       ∙ (is.sells.sold j owns
@@ -99,24 +99,24 @@ module _ {O P H : Type 0} (g : Setting) (r : Rooms) (xs : List (PersonWork O P H
   abbrev Bought : ℕ → PersonWork O P H → Type 0
   Bought k x = IsPersonResult g r k (bought_of x) x.why
 
-  pub stuck_told : (k : ℕ) × (k < length xs) × ((d : PersonWork O P H) → (get_or xs k d).why ≡ Some Why.Stuck) → SomebodyStuck g.table
+  pub stuck_told : IsWhyOfOne (λ w. w.why) xs Why.Stuck → SomebodyStuck g.table
   stuck_told s =
-      let at = placed_some Bought 0 xs s.0 results s.1 in
-      at.1.work.stuck (ap (λ (x : PersonWork O P H). x.why) (sym (at.2 at.0)) ∙ s.2 at.0)
+      let at = placed_some Bought 0 xs s.place results s.known in
+      at.holds.work.stuck (ap (λ (x : PersonWork O P H). x.why) (sym (at.there at.element)) ∙ s.its at.element)
 
   pub fell_told : (trail : List (TrailLine Letter)) → 0 < r.persons → All (λ x. Agrees trail x.seats.persons) xs → length xs ≡ g.limits.shards
-      → (k : ℕ) × (k < length xs) × ((d : PersonWork O P H) → (get_or xs k d).why ≡ Some Why.Fell)
+      → IsWhyOfOne (λ w. w.why) xs Why.Fell
       → (k : ℕ) × (k < g.limits.shards) × Falls (price_in g.prices) (taken_by k trail)
   fell_told trail room agree many s =
-      let at = placed_some Bought 0 xs s.0 results s.1 in
-      let x = at.0 in
-      let is : Bought s.0 x = subst (λ (m : ℕ). Bought m x) (omega arith) at.1 in
+      let at = placed_some Bought 0 xs s.place results s.known in
+      let x = at.element in
+      let is : Bought s.place x = subst (λ (m : ℕ). Bought m x) (omega arith) at.holds in
       let hears = is.work.hears in
       let told : letters_in x.seats.persons.lines ≡ hears.letters = took_told r.persons _ _ x.seats.persons hears.letters hears.took room in
-      let lines : lines_of s.0 trail ≡ x.seats.persons.lines =
-      ap (λ (m : ℕ). lines_of m trail) (sym is.seats.persons_seat) ∙ subst (λ (w : PersonWork O P H). Agrees trail w.seats.persons) (at.2 x) (agree s.0 x s.1) in
-      let falls : Falls (price_in g.prices) hears.letters = hears.hears.falls (ap (λ (w : PersonWork O P H). w.why) (sym (at.2 x)) ∙ s.2 x) in
-      (s.0, omega (arith, s.1, many), subst (λ ls. Falls (price_in g.prices) ls) (sym told ∙ ap letters_in (sym lines)) falls)
+      let lines : lines_of s.place trail ≡ x.seats.persons.lines =
+      ap (λ (m : ℕ). lines_of m trail) (sym is.seats.persons_seat) ∙ subst (λ (w : PersonWork O P H). Agrees trail w.seats.persons) (at.there x) (agree s.place x s.known) in
+      let falls : Falls (price_in g.prices) hears.letters = hears.hears.falls (ap (λ (w : PersonWork O P H). w.why) (sym (at.there x)) ∙ s.its x) in
+      (s.place, omega (arith, s.known, many), subst (λ ls. Falls (price_in g.prices) ls) (sym told ∙ ap letters_in (sym lines)) falls)
 
   -- the bids that they posted, by their seats at the objects' mail
   pub counted_told : (bids : List ℕ) (whys : List (Option Why)) (last : Option Why) (is_all : Bool) (end : Option End) → bids ≡ map (λ x. x.seats.objects.count) xs → length xs ≡ g.limits.shards
@@ -126,13 +126,13 @@ module _ {O P H : Type 0} (g : Setting) (r : Rooms) (xs : List (PersonWork O P H
     few = subst (λ ns. All (λ n. n ≤ g.limits.bids) ns) (sym is) few;
     spent = λ e. (
         let s = first_whose (λ x. x.why) xs whys last Why.Bids (stopped_for is_all _ end Why.Bids ends e) others here in
-        let known = s.1 in
-        let at = placed_some Bought 0 xs s.0 results known in
-        let x = at.0 in
-        let work = at.1.work in
-        let stop = why_stop work.step x.why Why.Bids work.why_is (ap (λ (w : PersonWork O P H). w.why) (sym (at.2 x)) ∙ s.2 x) in
+        let known = s.known in
+        let at = placed_some Bought 0 xs s.place results known in
+        let x = at.element in
+        let work = at.holds.work in
+        let stop = why_stop work.step x.why Why.Bids work.why_is (ap (λ (w : PersonWork O P H). w.why) (sym (at.there x)) ∙ s.its x) in
         let all : count x ≡ g.limits.bids = bids_spent _ _ _ _ _ _ _ work.buys refl stop in
-        (s.0, omega (arith, known, many), ap (λ ns. get_or ns s.0 0) is ∙ (sym (value_at count 0 xs s.0 x known at.2) ∙ all)));
+        (s.place, omega (arith, known, many), ap (λ ns. get_or ns s.place 0) is ∙ (sym (value_at count 0 xs s.place x known at.there) ∙ all)));
   }
     where
       count : PersonWork O P H → ℕ
@@ -142,9 +142,9 @@ module _ {O P H : Type 0} (g : Setting) (r : Rooms) (xs : List (PersonWork O P H
       few k d low =
           let known : k < length xs = omega (arith, low, length-map xs (λ x. x.seats.objects.count)) in
           let at = placed_some Bought 0 xs k results known in
-          let x = at.0 in
-          let one : x.seats.objects.count ≤ g.limits.bids = bids_few _ _ _ _ _ _ _ at.1.work.buys refl in
-          subst (λ (n : ℕ). n ≤ g.limits.bids) (value_at (λ x. x.seats.objects.count) d xs k x known at.2) one
+          let x = at.element in
+          let one : x.seats.objects.count ≤ g.limits.bids = bids_few _ _ _ _ _ _ _ at.holds.work.buys refl in
+          subst (λ (n : ℕ). n ≤ g.limits.bids) (value_at (λ x. x.seats.objects.count) d xs k x known at.there) one
 
   -- the work of each of them
   pub played_told : (bids : List ℕ) → bids ≡ map (λ x. x.seats.objects.count) xs → length xs ≡ g.limits.shards → (k : ℕ) → k < g.limits.shards
@@ -152,9 +152,9 @@ module _ {O P H : Type 0} (g : Setting) (r : Rooms) (xs : List (PersonWork O P H
   played_told bids is many k low =
       let known : k < length xs = omega (arith, low, many) in
       let at = placed_some Bought 0 xs k results known in
-      let x = at.0 in
-      let work = (subst (λ (m : ℕ). Bought m x) (omega arith) at.1).work in
-      let count : x.seats.objects.count ≡ get_or bids k 0 = value_at (λ x. x.seats.objects.count) 0 xs k x known at.2 ∙ ap (λ ns. get_or ns k 0) (sym is) in
+      let x = at.element in
+      let work = (subst (λ (m : ℕ). Bought m x) (omega arith) at.holds).work in
+      let count : x.seats.objects.count ≡ get_or bids k 0 = value_at (λ x. x.seats.objects.count) 0 xs k x known at.there ∙ ap (λ ns. get_or ns k 0) (sym is) in
       let made = bids_made _ _ _ _ _ _ _ work.buys refl in
       record { acts = work.buys.acts; left = x.shard; plays = work.buys.plays; posted = omega (arith, count, made); rise = work.hears.hears.rise }
 
@@ -237,7 +237,7 @@ module _ {O P H : Type 0} (g : Setting) (o p h : Numbers) (w : Works O P H) (are
     (e : PhaseEnd)
     (gathers : (j : ℕ) (d : ObjectWork O P H) → j < g.table.objects → Gathers (get_or w.objects.items (j % g.limits.shards) d).shard j (price_in e.gathered.prices.items j) (get_or e.gathered.holders.items j None))
     (ends : (e.end ≡ Some End.All) ↔ IsTrue w.hub.is_all)
-    (falls : e.end ≡ Some (End.Stopped Why.Fell) → (k : ℕ) × (k < length w.persons.items) × ((d : PersonWork O P H) → (get_or w.persons.items k d).why ≡ Some Why.Fell))
+    (falls : e.end ≡ Some (End.Stopped Why.Fell) → IsWhyOfOne (λ w. w.why) w.persons.items Why.Fell)
     (so sp sh : List (Account Letter)) (eo : so ≡ seats_at (λ a. a.objects) w) (ep : sp ≡ seats_at (λ a. a.persons) w) (eh : sh ≡ seats_at (λ a. a.hub) w)
     (end_is : e.end ≡ end_by w.hub.is_all (first_some ((map (λ x. x.why) w.persons.items ++ map (λ x. x.why) w.objects.items) ++ w.hub.why ∷ [])))
     (counted : e.bids.items ≡ map (λ x. x.seats.objects.count) w.persons.items) (trails : Trails)

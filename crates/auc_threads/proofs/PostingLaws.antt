@@ -21,7 +21,7 @@ use Rattle.auc_threads.specs.Taking.{GoesWithin}
 use Rattle.auc_threads.proofs.CallingLaws.{makes_as, makes_call, makes_none, makes_then}
 use Rattle.auc_threads.specs.Calling.{Makes, lines_by, lines_made}
 use Rattle.auc_threads.specs.Worker.{Accounts, Rooms}
-use Rattle.auc_threads.specs.Posting.{Ends, Posts, PostsAt, Says, Sent, calls_sent, calls_stopped, is_to_hub, post_of, step_after, step_of, to_shards, to_the_hub}
+use Rattle.auc_threads.specs.Posting.{Ends, IsLastPost, Posts, PostsAt, Says, Sent, calls_sent, calls_stopped, is_to_hub, post_of, step_after, step_of, to_shards, to_the_hub}
 
 pub sent_append : (k : ℕ) (xs ys : List Sent) → calls_sent k (xs ++ ys) ≡ calls_sent k xs ++ calls_sent k ys
 sent_append k [] ys = refl
@@ -40,12 +40,12 @@ abbrev no_posts : List Sent
 no_posts = []
 
 abbrev OneEnd : Sent → Step → Type 0
-OneEnd x step = ((step_of x ≡ Step.On) × (step ≡ Step.On)) ⊎ ((step_of x ≢ Step.On) × (no_posts ≡ []) × (step ≡ step_of x))
+OneEnd x step = ((step_of x ≡ Step.On) × (step ≡ Step.On)) ⊎ IsLastPost x no_posts step
 
 on_or_not : (x : Sent) (step s : Step) → step ≡ step_of x → step_of x ≡ s → OneEnd x step
 on_or_not x step Step.On is h = inl (h, is ∙ h)
-on_or_not x step Step.Over is h = inr ((λ on. (let e : Step.Over ≡ Step.On = sym h ∙ on in cc)), refl, is)
-on_or_not x step (Step.Stop why) is h = inr ((λ on. (let e : Step.Stop why ≡ Step.On = sym h ∙ on in cc)), refl, is)
+on_or_not x step Step.Over is h = inr (record { ends = λ on. (let e : Step.Over ≡ Step.On = sym h ∙ on in cc); last = refl; step_is = is })
+on_or_not x step (Step.Stop why) is h = inr (record { ends = λ on. (let e : Step.Stop why ≡ Step.On = sym h ∙ on in cc); last = refl; step_is = is })
 
 pub posts_one : (o : Out) (x : Sent) (step : Step) → x.out ≡ o → step ≡ step_of x → Posts (o ∷ []) (x ∷ []) step
 posts_one o x step e is = (e, on_or_not x step (step_of x) is refl)
@@ -58,7 +58,7 @@ posts_then (o ∷ os) ps (x ∷ xs) ys step f g = (
   f.0,
   elim f.1 [
     | inl on ↦ inl (on.0, posts_then os ps xs ys step on.1 g)
-    | inr end ↦ absurd (end.0 (sym end.2))
+    | inr end ↦ absurd (end.ends (sym end.step_is))
   ],
 )
 
@@ -82,7 +82,7 @@ posts_long [] (x ∷ xs) step f = absurd f
 posts_long (o ∷ os) [] step f = absurd f
 posts_long (o ∷ os) (x ∷ xs) step f = elim f.1 [
   | inl on ↦ (let h = posts_long os xs step on.1 in omega (arith, h))
-  | inr end ↦ omega (arith, ap length end.1)
+  | inr end ↦ omega (arith, ap length end.last)
 ]
 
 line_few : (k : ℕ) (c : Call Letter) (r : Option (Reply Letter)) → length (lines_by k c r) ≤ 1
@@ -111,7 +111,7 @@ sent_full k (o ∷ os) (x ∷ xs) f = elim f.1 [
   | inl on ↦ (
       let h = sent_full k os xs on.1 in
       omega (arith, h, one_line k (post_of k x.out) x.out.letter x.answer on.0, length-append (lines_by k (post_of k x.out) (post_reply x.answer)) (lines_made k (calls_sent k xs))))
-  | inr end ↦ absurd (end.0 (sym end.2))
+  | inr end ↦ absurd (end.ends (sym end.step_is))
 ]
 
 -- ---- at one mail
@@ -160,7 +160,7 @@ shards_only (o ∷ os) (x ∷ xs) step others f =
     let rest : (to_shards xs ≡ xs) × (to_the_hub xs ≡ []) =
     elim f.1 [
       | inl on ↦ shards_only os xs step (All-tail (λ (u : Out). is_to_hub u.to ≡ false) o os others) on.1
-      | inr end ↦ (ap to_shards end.1 ∙ sym end.1, ap to_the_hub end.1)
+      | inr end ↦ (ap to_shards end.last ∙ sym end.last, ap to_the_hub end.last)
     ] in (
       ap (λ b. cond (not b) (x ∷ to_shards xs) (to_shards xs)) test ∙ ap (λ w. x ∷ w) rest.0,
       ap (λ b. cond b (x ∷ to_the_hub xs) (to_the_hub xs)) test ∙ rest.1,

@@ -63,7 +63,7 @@ no_bids : (t : Objects) (stray : List Letter) (step : Step) (j : ℕ) → AfterL
 no_bids t stray Step.On j after own = ap (bids_on j) after
 no_bids t stray Step.Over j after own = ap (bids_on j) after
 no_bids t stray (Step.Stop Why.Trail) j after own = ap (bids_on j) after
-no_bids t stray (Step.Stop Why.Stray) j after own = ap (bids_on j) after.1 ∙ stray_letter t after.0 j own after.2
+no_bids t stray (Step.Stop Why.Stray) j after own = ap (bids_on j) after.stray_is ∙ stray_letter t after.letter j own after.unfit
 no_bids t stray (Step.Stop Why.Bids) j after own = absurd after
 no_bids t stray (Step.Stop Why.Ceiling) j after own = absurd after
 no_bids t stray (Step.Stop Why.Stuck) j after own = absurd after

@@ -43,7 +43,7 @@ not_stuck true (Some End.All) ne e = cc
 not_stuck true (Some (End.Stopped why)) ne e = no_stop why (λ w. ne (ap (λ (y : Why). Some (End.Stopped y)) w)) e
 
 pub never_stuck : (t : Table) (limits : Limits) (eps : ℤ) (prices : List ℤ) (p : PhaseEnd) → NobodyStuck t → IsPhase t limits eps prices p → verdict_of limits p ≢ Verdict.Broken Guard.Stuck
-never_stuck t limits eps prices p nobody is = not_stuck (is_settled limits p) p.end (λ e. (let s = is.stuck e in nobody s.0 s.1 s.2))
+never_stuck t limits eps prices p nobody is = not_stuck (is_settled limits p) p.end (λ e. (let s = is.stuck e in nobody s.person s.known s.stuck))
 
 -- ---- what is decided
 

@@ -45,7 +45,7 @@ free_posts [] (x ∷ xs) step f = absurd f
 free_posts (o ∷ os) [] step f = absurd f
 free_posts (o ∷ os) (x ∷ xs) step f = elim f.1 [
   | inl on ↦ free_posts os xs step on.1
-  | inr end ↦ subst GuardFree (sym end.2) (free_after x.out.letter x.answer)
+  | inr end ↦ subst GuardFree (sym end.step_is) (free_after x.out.letter x.answer)
 ]
 
 pub free_first : (x y : Step) → GuardFree x → GuardFree y → GuardFree (first_step x y)

@@ -13,7 +13,7 @@ use Rattle.auc_threads.specs.declared.object_worker.ObjectWork.{ObjectWork}
 use Rattle.auc_threads.specs.declared.person_worker.PersonWork.{PersonWork}
 use Rattle.auc_threads.specs.declared.settling.Trails.{Trails}
 use Rattle.auc_threads.specs.Starts.{HaveBought, HaveSold, IsObjectResult, IsObjectWork, IsPersonResult, IsPersonWork}
-use Rattle.auc_threads.specs.Worked.{AreNoted, IsBuyer, IsSeller, IsNoted, audited, end_by, first_some}
+use Rattle.auc_threads.specs.Worked.{AreNoted, IsBuyer, IsSeller, IsNoted, IsWhyOfOne, audited, end_by, first_some}
 use Rattle.auc_threads.specs.Worker.{Accounts, AreSeatsOf, Rooms, Setting, accounts_of, bought_of, new_buyer, new_seller, round, sold_of}
 use Rattle.auc_threads.proofs.BuyingLaws.{bids_few, bids_noted, bids_spent}
 use Rattle.auc_threads.proofs.PlacedLaws.{placed_some}
@@ -74,15 +74,15 @@ here_or_later (Some w) whys why e = inl e
 
 -- is one of theirs
 pub first_whose : {X : Type 0} (f : X → Option Why) (xs : List X) (ys : List (Option Why)) (last : Option Why) (why : Why) → first_some ((map f xs ++ ys) ++ last ∷ []) ≡ Some why → first_some ys ≢ Some why → last ≢ Some why
-    → (k : ℕ) × (k < length xs) × ((d : X) → f (get_or xs k d) ≡ Some why)
+    → IsWhyOfOne f xs why
 first_whose f [] ys last why e others here = absurd (first_back ys last why others here e)
 first_whose f (x ∷ xs) ys last why e others here =
     elim (here_or_later (f x) ((map f xs ++ ys) ++ last ∷ []) why e) [
-      | inl is ↦ (0, omega arith, λ d. is)
+      | inl is ↦ record { place = 0; known = omega arith; its = λ d. is }
       | inr later ↦ (
           let at = first_whose f xs ys last why later others here in
-          let low = at.1 in
-          (suc at.0, omega (arith, low), at.2))
+          let low = at.known in
+          record { place = suc at.place; known = omega (arith, low); its = at.its })
     ]
 
 pub stopped_for : (is_all : Bool) (first : Option Why) (end : Option End) (why : Why) → end ≡ end_by is_all first → end ≡ Some (End.Stopped why) → first ≡ Some why
@@ -123,15 +123,15 @@ module _ {O P H : Type 0} (g : Setting) (r : Rooms) (e : r ≡ audited g.limits)
     seller_told k low =
         let known : k < length xs = omega (arith, low, many) in
         let at = placed_some (λ k x. IsObjectResult g r k (sold_of x) x.why) 0 xs k results known in
-        let x = at.0 in
+        let x = at.element in
         let w = sold_of x in
-        let got : IsObjectResult g r k w x.why = subst (λ (m : ℕ). IsObjectResult g r m w x.why) (omega arith) at.1 in
+        let got : IsObjectResult g r k w x.why = subst (λ (m : ℕ). IsObjectResult g r m w x.why) (omega arith) at.holds in
         record {
           left = w;
           work =
-              subst (λ (o : Option Why). IsObjectWork g.eps (audited g.limits) (new_seller g k) w o) (value_at (λ y. y.why) None xs k x known at.2)
+              subst (λ (o : Option Why). IsObjectWork g.eps (audited g.limits) (new_seller g k) w o) (value_at (λ y. y.why) None xs k x known at.there)
               (subst (λ (q : Rooms). IsObjectWork g.eps q (new_seller g k) w x.why) e got.work);
-          noted = noted_at (λ y. accounts_of y.seats) g.limits.audit trails xs k x (g.limits.shards + k) true known at.2 got.seats;
+          noted = noted_at (λ y. accounts_of y.seats) g.limits.audit trails xs k x (g.limits.shards + k) true known at.there got.seats;
         }
 
   module _ (xs : List (PersonWork O P H)) (results : HaveBought g r xs) (some : 0 < r.objects) (true : AreTrue g.limits.audit trails (λ x. accounts_of x.seats) xs) (many : length xs ≡ g.limits.shards)
@@ -140,18 +140,18 @@ module _ {O P H : Type 0} (g : Setting) (r : Rooms) (e : r ≡ audited g.limits)
     buyer_told k low =
         let known : k < length xs = omega (arith, low, many) in
         let at = placed_some (λ k x. IsPersonResult g r k (bought_of x) x.why) 0 xs k results known in
-        let x = at.0 in
+        let x = at.element in
         let w = bought_of x in
-        let got : IsPersonResult g r k w x.why = subst (λ (m : ℕ). IsPersonResult g r m w x.why) (omega arith) at.1 in
+        let got : IsPersonResult g r k w x.why = subst (λ (m : ℕ). IsPersonResult g r m w x.why) (omega arith) at.holds in
         let begun = new_buyer g k in
-        let is = value_at (λ y. y.why) None xs k x known at.2 in
+        let is = value_at (λ y. y.why) None xs k x known at.there in
         let few : w.seats.objects.count ≤ g.limits.bids = bids_few g.table g.eps r k begun w got.work.step got.work.buys refl in
         let adds : length w.seats.objects.lines ≡ w.seats.objects.count = bids_noted g.table g.eps r k begun w got.work.step got.work.buys some refl refl in
         record {
           left = w;
           work = subst (λ (o : Option Why). IsPersonWork (round g.table g.eps) (audited g.limits) begun w o) is (subst (λ (q : Rooms). IsPersonWork (round g.table g.eps) q begun w x.why) e got.work);
-          noted = noted_at (λ y. accounts_of y.seats) g.limits.audit trails xs k x k true known at.2 got.seats;
-          counted = adds ∙ (value_at (λ y. y.seats.objects.count) 0 xs k x known at.2 ∙ ap (λ ns. get_or ns k 0) (sym counted));
+          noted = noted_at (λ y. accounts_of y.seats) g.limits.audit trails xs k x k true known at.there got.seats;
+          counted = adds ∙ (value_at (λ y. y.seats.objects.count) 0 xs k x known at.there ∙ ap (λ ns. get_or ns k 0) (sym counted));
           few = omega (arith, adds, few);
           spent = λ stopped. adds ∙ bids_spent g.table g.eps r k begun w got.work.step got.work.buys refl (why_stop got.work.step x.why Why.Bids got.work.why_is (is ∙ stopped));
         }

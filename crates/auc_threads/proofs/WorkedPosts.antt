@@ -44,4 +44,4 @@ dropped = (refl, inl (refl, refl))
 
 -- an award to a closed box ends it, and nothing is posted after it
 ended : Posts (to_person 2 1 (Letter.Award 1 0 (pos 3)) ∷ to_hub (Letter.First 0) ∷ []) (sent (to_person 2 1 (Letter.Award 1 0 (pos 3))) (Err refused.Closed) ∷ []) Step.Over
-ended = (refl, inr ((λ e. cc), refl, refl))
+ended = (refl, inr (record { ends = λ e. cc; last = refl; step_is = refl }))

@@ -18,11 +18,17 @@ pub data Act : Type 0 where
   Hear : Letter → Act
   Make : Out → Act
 
+-- an act led to this shard, and from it the later acts led on
+pub record LeadsOn (By On : Persons → Type 0) : Type 0 where
+  pub next : Persons
+  pub by : By next
+  pub on : On next
+
 -- These acts, one after another, lead from the shard s to n: each letter fits, and each bid is the next one.
 abbrev pub Plays : Table → ℤ → Persons → List Act → Persons → Type 0
 Plays t eps s [] n = n ≡ s
-Plays t eps s (Hear x ∷ acts) n = (m : Persons) × OnLetter s x (Ok tt) m × Plays t eps m acts n
-Plays t eps s (Make o ∷ acts) n = (m : Persons) × NextBid t eps s (Bidding.Out o) m × Plays t eps m acts n
+Plays t eps s (Hear x ∷ acts) n = LeadsOn (OnLetter s x (Ok tt)) (λ m. Plays t eps m acts n)
+Plays t eps s (Make o ∷ acts) n = LeadsOn (NextBid t eps s (Bidding.Out o)) (λ m. Plays t eps m acts n)
 
 -- the letters taken among some acts, and below the bids made, in order
 abbrev pub heard_in : List Act → List Letter
@@ -40,8 +46,12 @@ made_in (Make o ∷ acts) = o ∷ made_in acts
 abbrev pub CantBid : Table → ℤ → Persons → Why → Type 0
 CantBid t eps n why = (n.idle ≢ []) × Stops t eps n (first_idle n) why
 
-abbrev pub CantHear : Persons → List Letter → Why → Type 0
-CantHear n fault why = (x : Letter) × (f : PersonFault) × (fault ≡ x ∷ []) × (why ≡ reason_for f) × OnLetter n x (Err f) n
+pub record CantHear (n : Persons) (fault : List Letter) (why : Why) : Type 0 where
+  pub letter : Letter
+  pub found : PersonFault
+  pub fault_is : fault ≡ letter ∷ []
+  pub why_is : why ≡ reason_for found
+  pub heard : OnLetter n letter (Err found) n
 
 abbrev pub AfterActs : Table → ℤ → Persons → List Letter → Step → Type 0
 AfterActs t eps n fault Step.On = fault ≡ []

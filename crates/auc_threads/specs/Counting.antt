@@ -54,9 +54,16 @@ EndsBy (Ok Taken.Empty) why = ⊥
 EndsBy (Ok Taken.Over) why = why ≡ None
 EndsBy (Err e) why = why ≡ Some Why.Trail
 
+-- the answer is one First more, but not the last one, and nothing ends the phase
+pub record CountsOneMore (persons : ℕ) (h : Counting) (last : Answer) (n : Counting) : Type 0 where
+  pub first : GaveFirst last
+  pub more : n.count ≡ h.count + 1
+  pub fewer : n.count < persons
+  pub going : n.end ≡ None
+
 -- The hub took this answer, for this number of persons. It goes on, or has counted all, or ends the phase.
 abbrev pub Counted : ℕ → Counting → Answer → Heard → Counting → Type 0
-Counted persons h last Heard.On n = GaveFirst last × (n.count ≡ h.count + 1) × (n.count < persons) × (n.end ≡ None)
+Counted persons h last Heard.On n = CountsOneMore persons h last n
 Counted persons h last Heard.All n = GaveFirst last × (h.count + 1 ≡ persons)
 Counted persons h last (Heard.End why) n = EndsBy last why
 

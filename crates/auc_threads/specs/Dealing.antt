@@ -44,13 +44,19 @@ pub record Fits (s : Objects) (bid : Bid) : Type 0 where
   pub owns : Owns s bid.object
   pub amount : IsPrice bid.amount
 
+-- the last letter is no bid that fits
+pub record IsStray (t : Objects) (stray : List Letter) : Type 0 where
+  pub letter : Letter
+  pub stray_is : stray ≡ letter ∷ []
+  pub unfit : (bid : Bid) → IsBidIn t letter bid → ⊥
+
 -- The step of a worker after its letters, of which the last one may not fit. If all fit, it goes on, or no letter will
 -- come any more, or no call could be noted. It stops at the first one that doesn't fit.
 abbrev pub AfterLetters : Objects → List Letter → Step → Type 0
 AfterLetters t stray Step.On = stray ≡ []
 AfterLetters t stray Step.Over = stray ≡ []
 AfterLetters t stray (Step.Stop Why.Trail) = stray ≡ []
-AfterLetters t stray (Step.Stop Why.Stray) = (x : Letter) × (stray ≡ x ∷ []) × ((bid : Bid) → IsBidIn t x bid → ⊥)
+AfterLetters t stray (Step.Stop Why.Stray) = IsStray t stray
 AfterLetters t stray (Step.Stop Why.Bids) = ⊥
 AfterLetters t stray (Step.Stop Why.Ceiling) = ⊥
 AfterLetters t stray (Step.Stop Why.Stuck) = ⊥
@@ -68,6 +74,12 @@ pub record DealsWith (eps : ℤ) (s : Objects) (letters : List Letter) (said : L
   pub left : t ≡ after_bids eps s bids
   pub said_are : said ≡ says_all eps s bids
   pub after : AfterLetters t stray step
+
+-- the same, where what it has to post is put behind what was noted before
+pub record DealsBehind (eps : ℤ) (s : Objects) (letters : List Letter) (old new : List Out) (t : Objects) (step : Step) : Type 0 where
+  pub more : List Out
+  pub behind : new ≡ old ++ more
+  pub dealt : DealsWith eps s letters more t step
 
 -- the same, where the worker took the letters from its box
 pub record Deals (eps : ℤ) (x : Box) (old : Taker Objects) (said : List Out) (new : Taker Objects) (step : Step) : Type 0 where

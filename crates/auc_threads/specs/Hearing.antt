@@ -17,8 +17,16 @@ Tells j p (Letter.First k) = ⊥
 Tells j p (Letter.Stop y) = ⊥
 
 -- one of the letters has this price of the object
-abbrev pub IsTold : List Letter → ℕ → ℤ → Type 0
-IsTold letters j p = (x : Letter) × Contains letters x × Tells j p x
+pub record IsTold (letters : List Letter) (j : ℕ) (p : ℤ) : Type 0 where
+  pub letter : Letter
+  pub listed : Contains letters letter
+  pub tells : Tells j p letter
+
+-- one of the letters has a price of this object above p
+pub record IsToldAbove (letters : List Letter) (j : ℕ) (p : ℤ) : Type 0 where
+  pub earlier : ℤ
+  pub told : IsTold letters j earlier
+  pub above : p <ℤ earlier
 
 -- one of the letters has a price of an object below the one at the start, or below that of an earlier letter
 pub record Falls (start : ℕ → ℤ) (letters : List Letter) : Type 0 where
@@ -29,7 +37,7 @@ pub record Falls (start : ℕ → ℤ) (letters : List Letter) : Type 0 where
   pub object : ℕ
   pub price : ℤ
   pub tells : Tells object price letter
-  pub below : (price <ℤ start object) ⊎ ((earlier : ℤ) × IsTold front object earlier × (price <ℤ earlier))
+  pub below : (price <ℤ start object) ⊎ IsToldAbove front object price
 
 -- A person shard took letters. Each of its copies is as before or from one of the letters, and no copy falls. Where the
 -- shard stops for a fall, one of the letters has a lower price.
@@ -45,5 +53,7 @@ pub record Hears (x : Box) (old new : Taker Persons) (fell : Type 0) : Type 0 wh
   pub hears : HearsOf old.shard letters new.shard fell
 
 -- some person has no arc
-abbrev pub SomebodyStuck : Table → Type 0
-SomebodyStuck t = (i : ℕ) × (i < length t.rows) × (row_of t i ≡ [])
+pub record SomebodyStuck (t : Table) : Type 0 where
+  pub person : ℕ
+  pub known : person < length t.rows
+  pub stuck : row_of t person ≡ []

@@ -39,14 +39,19 @@ pub record Sent : Type 0 where
 abbrev pub step_of : Sent → Step
 step_of x = step_after x.out.letter x.answer
 
+-- no post was made after this one, which ends the worker with this step
+pub record IsLastPost (x : Sent) (xs : List Sent) (step : Step) : Type 0 where
+  pub ends : step_of x ≢ Step.On
+  pub last : xs ≡ []
+  pub step_is : step ≡ step_of x
+
 -- The posts of these letters, in order. Either all were posted, and the worker goes on; or the last post made is the
 -- first that ends it.
 abbrev pub Posts : List Out → List Sent → Step → Type 0
 Posts [] [] step = step ≡ Step.On
 Posts [] (x ∷ xs) step = ⊥
 Posts (o ∷ os) [] step = ⊥
-Posts (o ∷ os) (x ∷ xs) step = (x.out ≡ o) × (((step_of x ≡ Step.On) × Posts os xs step)
-    ⊎ ((step_of x ≢ Step.On) × (xs ≡ []) × (step ≡ step_of x)))
+Posts (o ∷ os) (x ∷ xs) step = (x.out ≡ o) × (((step_of x ≡ Step.On) × Posts os xs step) ⊎ IsLastPost x xs step)
 
 -- the post of a letter, as a call
 abbrev pub post_of : ℕ → Out → Call Letter

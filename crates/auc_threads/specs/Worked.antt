@@ -55,6 +55,12 @@ pub record IsHub (g : Setting) (trails : Trails) (is_all : Bool) (why : Option W
   pub persons_closed : Closes g.limits.audit g.limits.shards (new_account (2 * g.limits.shards)) left.persons
   pub noted : AreNoted g.limits.audit (2 * g.limits.shards) trails left
 
+-- the worker at this place has this reason
+pub record IsWhyOfOne {X : Type 0} (why_of : X → Option Why) (works : List X) (why : Why) : Type 0 where
+  pub place : ℕ
+  pub known : place < length works
+  pub its : (d : X) → why_of (slice_index_or works place d) ≡ Some why
+
 -- the first reason
 abbrev pub first_some : List (Option Why) → Option Why
 first_some [] = None

@@ -1,14 +1,13 @@
 //! How a worker of the objects answers bids.
 
-ghost use Rattle.std.specs.Prelude.{◌≡◌, ◌≢◌, ◌≤◌, ◌<◌, ◌+◌, ◌++◌, ◌↔◌, [], ◌∷◌, List, Ok, IsTrue, length};
+ghost use Rattle.std.specs.Prelude.{◌≡◌, ◌≢◌, ◌≤◌, ◌<◌, ◌+◌, ◌++◌, ◌↔◌, [], ◌∷◌, Ok, IsTrue, length};
 ghost use Rattle.arrayvec.specs.ArrayVec.{array_vec_len};
 ghost use Rattle.auc_objects.specs.Objects.{Owns};
 ghost use Rattle.auc_objects.specs.Answers.{letters_of};
 ghost use Rattle.auc_letters.specs.declared.letter.Why.{Why as AWhy};
-ghost use Rattle.auc_letters.specs.declared.out.Out.{Out as AnOut};
 ghost use Rattle.auc_mail.specs.declared.call.Taken.{Taken as ATaken};
 ghost use Rattle.auc_threads.specs.Taking.{AfterTake, letter_of};
-ghost use Rattle.auc_threads.specs.Dealing.{Deals, DealsWith, prices_told};
+ghost use Rattle.auc_threads.specs.Dealing.{Deals, DealsBehind, prices_told};
 ghost use Rattle.auc_threads.specs.Worker.{box, dealer_of, seller_of, taker};
 ghost use Rattle.auc_threads.specs.declared.calls.Step.{Step as AStep};
 
@@ -85,8 +84,7 @@ fn deal_letter(
 ) -> Step
     requires shards { shard.old.person_shards ≡ task.now.limits.now.shards }
     requires room { array_vec_len said.old + MOST_SAID ≤ ROOM }
-    ensures deals { (more : List AnOut) × (said.new.items ≡ said.old.items ++ more)
-        × DealsWith task.now.eps shard.old (letter ∷ []) more shard.new result }
+    ensures deals { DealsBehind task.now.eps shard.old (letter ∷ []) said.old.items said.new.items shard.new result }
     ensures goes { (result ≢ AStep.Over) × (result ≢ AStep.Stop AWhy.Trail) }
 {
     let Some(bid) = shard.bid_in(letter) else {
@@ -112,8 +110,8 @@ fn deal(
     requires shards { shard.old.person_shards ≡ task.now.limits.now.shards }
     requires room { array_vec_len said.old + MOST_SAID ≤ ROOM }
     requires some { taken ≢ Ok ATaken.Empty }
-    ensures deals { (more : List AnOut) × (said.new.items ≡ said.old.items ++ more)
-        × DealsWith task.now.eps shard.old (letter_of taken) more shard.new result }
+    ensures deals { DealsBehind task.now.eps shard.old (letter_of taken) said.old.items said.new.items shard.new
+        result }
     ensures after { AfterTake taken result }
 {
     match taken {

@@ -8,7 +8,7 @@ ghost use Rattle.auc_graph.specs.Price.{IsPrice};
 ghost use Rattle.auc_model.specs.declared.turn.End.{End};
 ghost use Rattle.auc_threads.specs.Gathering.{Gathers, IsOwnShard};
 ghost use Rattle.auc_threads.specs.Placed.{Placed};
-ghost use Rattle.auc_threads.specs.Worked.{end_by, first_some};
+ghost use Rattle.auc_threads.specs.Worked.{IsWhyOfOne, end_by, first_some};
 
 use crate::object_worker::ObjectWork;
 use crate::person_worker::PersonWork;
@@ -66,8 +66,7 @@ fn persons_reason<O: MailBrand, P: MailBrand, H: MailBrand>(
     works: &[PersonWork<O, P, H>],
 ) -> Option<Why>
     ensures first { result ≡ first_some (map (λ w. w.why) works.now) }
-    ensures whose { IfSome result (λ y. (k : ℕ) × (k < length works.now)
-        × ((d : _) → (slice_index_or works.now k d).why ≡ Some y)) }
+    ensures whose { IfSome result (IsWhyOfOne (λ w. w.why) works.now) }
 {
     for work in works {
         if let Some(why) = work.why {
@@ -100,10 +99,8 @@ fn reason<O: MailBrand, P: MailBrand, H: MailBrand>(works: &Works<O, P, H>) -> O
     ensures first { result ≡ first_some ((map (λ w. w.why) works.now.persons.items ++ map
         (λ w. w.why) works.now.objects.items)
         ++ works.now.hub.why ∷ []) }
-    ensures stuck { result ≡ Some Why.Stuck → (k : ℕ) × (k < length works.now.persons.items)
-        × ((d : _) → (slice_index_or works.now.persons.items k d).why ≡ Some Why.Stuck) }
-    ensures fell { result ≡ Some Why.Fell → (k : ℕ) × (k < length works.now.persons.items)
-        × ((d : _) → (slice_index_or works.now.persons.items k d).why ≡ Some Why.Fell) }
+    ensures stuck { result ≡ Some Why.Stuck → IsWhyOfOne (λ w. w.why) works.now.persons.items Why.Stuck }
+    ensures fell { result ≡ Some Why.Fell → IsWhyOfOne (λ w. w.why) works.now.persons.items Why.Fell }
 {
     if let Some(why) = persons_reason(works.persons.as_slice()) {
         return Some(why);
@@ -124,10 +121,8 @@ pub(crate) fn end_of<O: MailBrand, P: MailBrand, H: MailBrand>(
         ((map (λ w. w.why) works.now.persons.items ++ map (λ w. w.why) works.now.objects.items) ++ works.now.hub.why
         ∷ [])) }
     ensures all { result ≡ Some End.All ↔ IsTrue works.now.hub.is_all }
-    ensures stuck { result ≡ Some (End.Stopped Why.Stuck) → (k : ℕ) × (k < length works.now.persons.items)
-        × ((d : _) → (slice_index_or works.now.persons.items k d).why ≡ Some Why.Stuck) }
-    ensures fell { result ≡ Some (End.Stopped Why.Fell) → (k : ℕ) × (k < length works.now.persons.items)
-        × ((d : _) → (slice_index_or works.now.persons.items k d).why ≡ Some Why.Fell) }
+    ensures stuck { result ≡ Some (End.Stopped Why.Stuck) → IsWhyOfOne (λ w. w.why) works.now.persons.items Why.Stuck }
+    ensures fell { result ≡ Some (End.Stopped Why.Fell) → IsWhyOfOne (λ w. w.why) works.now.persons.items Why.Fell }
 {
     if works.hub.is_all {
         return Some(End::All);

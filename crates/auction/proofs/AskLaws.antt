@@ -38,12 +38,16 @@ one_number least most usual (Some value) n m h k = h.0.1 ∙ sym k.0.1
 
 module _ (job : ℕ → Bool → Job) (large : Bool) (value first second : Option Text) where
   asks_objects : (r : Result Words WordsError) (n : ℕ) → HasObjectsJob job r large value first second → HasObjects large value n → AsksFor (job n large) r first second
-  asks_objects (Ok w) n h is = (h.2.0 ∙ ap (λ (m : ℕ). job m large) (one_number 1 (objects_limit large) 0 value h.0 n h.1 is), h.2.1, h.2.2)
+  asks_objects (Ok w) n h is = record {
+    job_is = h.asked.job_is ∙ ap (λ (m : ℕ). job m large) (one_number 1 (objects_limit large) 0 value h.objects n h.given is);
+    first_is = h.asked.first_is;
+    second_is = h.asked.second_is;
+  }
   asks_objects (Err e) n (inl out) is = out
   asks_objects (Err e) n (inr wrong) is = absurd (wrong.1 n is)
 
   asks_no_objects : (r : Result Words WordsError) → HasObjectsJob job r large value first second → ((n : ℕ) → HasObjects large value n → ⊥) → IsUsage r
-  asks_no_objects (Ok w) h none = absurd (none h.0 h.1)
+  asks_no_objects (Ok w) h none = absurd (none h.objects h.given)
   asks_no_objects (Err e) (inl out) none = inr out
   asks_no_objects (Err e) (inr wrong) none = inl wrong.0
 
@@ -127,17 +131,18 @@ module _ {f g : Text → Option Text} (same : (name : Text) → f name ≡ g nam
   }
 
   pub same_asked : (job : Job) → AsksToSolve f job → AsksToSolve g job
-  same_asked job h = (
-    h.0,
-    h.1,
-    h.2,
-    h.3,
-    same_numbers same h.0 h.1 h.2 h.3 h.4,
-    same_together h.0 h.2 h.5,
-    h.6 ∙ ap (λ (v : Option Text). Solve h.0 h.1 h.2 h.3 (is_some v) (is_direct f) (is_large f)) (same (codes "from"))
-        ∙ ap (λ (b : Bool). Solve h.0 h.1 h.2 h.3 (is_some (g (codes "from"))) b (is_large f)) (same_direct same)
-        ∙ ap (λ (b : Bool). Solve h.0 h.1 h.2 h.3 (is_some (g (codes "from"))) (is_direct g) b) (same_large same),
-  )
+  same_asked job h = record {
+    workers = h.workers;
+    bids = h.bids;
+    audit = h.audit;
+    objects = h.objects;
+    numbers = same_numbers same h.workers h.bids h.audit h.objects h.numbers;
+    together = same_together h.workers h.audit h.together;
+    job_is =
+        h.job_is ∙ ap (λ (v : Option Text). Solve h.workers h.bids h.audit h.objects (is_some v) (is_direct f) (is_large f)) (same (codes "from"))
+        ∙ ap (λ (b : Bool). Solve h.workers h.bids h.audit h.objects (is_some (g (codes "from"))) b (is_large f)) (same_direct same)
+        ∙ ap (λ (b : Bool). Solve h.workers h.bids h.audit h.objects (is_some (g (codes "from"))) (is_direct g) b) (same_large same);
+  }
 
   pub same_wrong : (e : WordsError) → AskWrongly f e → AskWrongly g e
   same_wrong Usage h = λ workers bids audit objects are. h workers bids audit objects (same_numbers back workers bids audit objects are)
@@ -203,9 +208,9 @@ module _ (values : Text → Option Text) (workers bids audit objects : ℕ) (are
 
   one_solve : (job : Job) → AsksToSolve values job → job ≡ Solve workers bids audit objects (is_some (values (codes "from"))) (is_direct values) (is_large values)
   one_solve job h =
-      let same = one_number 1 1000000000000 (usual_bids (is_large values)) (values (codes "bids")) h.1 bids h.4.of_bids are.of_bids in
-      let also = one_number 1 (objects_limit (is_large values)) 0 (values (codes "objects")) h.3 objects h.4.of_objects are.of_objects in
-      h.6 ∙ (rw (one_workers h.0 h.1 h.2 h.3 h.4, same, one_audit h.0 h.1 h.2 h.3 h.4, also) refl)
+      let same = one_number 1 1000000000000 (usual_bids (is_large values)) (values (codes "bids")) h.bids bids h.numbers.of_bids are.of_bids in
+      let also = one_number 1 (objects_limit (is_large values)) 0 (values (codes "objects")) h.objects objects h.numbers.of_objects are.of_objects in
+      h.job_is ∙ (rw (one_workers h.workers h.bids h.audit h.objects h.numbers, same, one_audit h.workers h.bids h.audit h.objects h.numbers, also) refl)
 
   not_wrongly : GoTogether values workers audit → (e : WordsError) → AskWrongly values e → ⊥
   not_wrongly h Usage wrong = wrong workers bids audit objects are
@@ -293,22 +298,26 @@ is_no_number values none LargeAlone wrong = absurd (none wrong.workers wrong.bid
 module _ (rows : List Row) (given : List (Text × Text)) (same : (name : Text) → first_of name rows ≡ value_in given name) where
   -- the job that was read, and the numbers with which it goes together
   asked : (w : Words) → HasSolveOf (Ok w) rows → AsksToSolve (value_in given) w.job
-  asked w h = same_asked same w.job h.0
+  asked w h = same_asked same w.job h.solve
 
   pub asks_to_solve : (r : Result Words WordsError) (workers bids audit objects : ℕ) → HasSolveOf r rows → AreNumbers (value_in given) workers bids audit objects → GoTogether (value_in given) workers audit
       → AsksFor (Solve workers bids audit objects (is_some (value_in given (codes "from"))) (is_direct (value_in given)) (is_large (value_in given))) r (value_in given (codes "file")) (value_in given (codes "from"))
-  asks_to_solve (Ok w) workers bids audit objects h are together = (one_solve (value_in given) workers bids audit objects are w.job (asked w h), h.1.1 ∙ same (codes "file"), h.1.2 ∙ same (codes "from"))
+  asks_to_solve (Ok w) workers bids audit objects h are together = record {
+    job_is = one_solve (value_in given) workers bids audit objects are w.job (asked w h);
+    first_is = h.names.first_is ∙ same (codes "file");
+    second_is = h.names.second_is ∙ same (codes "from");
+  }
   asks_to_solve (Err e) workers bids audit objects (inl out) are together = out
   asks_to_solve (Err e) workers bids audit objects (inr wrong) are together = absurd (not_wrongly (value_in given) workers bids audit objects are together e (same_wrong same e wrong))
 
   pub asks_wrongly : (r : Result Words WordsError) → HasSolveOf r rows → ((workers bids audit objects : ℕ) → AreNumbers (value_in given) workers bids audit objects → ⊥) → IsUsage r
-  asks_wrongly (Ok w) h none = let a = asked w h in absurd (none a.0 a.1 a.2 a.3 a.4)
+  asks_wrongly (Ok w) h none = let a = asked w h in absurd (none a.workers a.bids a.audit a.objects a.numbers)
   asks_wrongly (Err e) (inl out) none = inr out
   asks_wrongly (Err e) (inr wrong) none = inl (is_no_number (value_in given) none e (same_wrong same e wrong))
 
   pub asks_threads : (r : Result Words WordsError) (workers bids audit objects : ℕ) → HasSolveOf r rows → AreNumbers (value_in given) workers bids audit objects → is_direct (value_in given) ≡ true
       → HasThreads (value_in given) → IsDirectThreads r
-  asks_threads (Ok w) workers bids audit objects h are is threads = let a = asked w h in absurd (a.5.direct is threads)
+  asks_threads (Ok w) workers bids audit objects h are is threads = let a = asked w h in absurd (a.together.direct is threads)
   asks_threads (Err e) workers bids audit objects (inl out) are is threads = inr out
   asks_threads (Err e) workers bids audit objects (inr wrong) are is threads = inl (wants_threads (value_in given) workers bids audit objects are is e (same_wrong same e wrong))
 
@@ -316,33 +325,33 @@ module _ (rows : List Row) (given : List (Text × Text)) (same : (name : Text) �
       → IsAuditAlone r
   asks_alone (Ok w) bids audit objects h are is some =
       let a = asked w h in
-      let none = a.5.trail is (one_workers (value_in given) 0 bids audit objects are a.0 a.1 a.2 a.3 a.4) in
-      absurd (omega (arith, none, one_audit (value_in given) 0 bids audit objects are a.0 a.1 a.2 a.3 a.4, some))
+      let none = a.together.trail is (one_workers (value_in given) 0 bids audit objects are a.workers a.bids a.audit a.objects a.numbers) in
+      absurd (omega (arith, none, one_audit (value_in given) 0 bids audit objects are a.workers a.bids a.audit a.objects a.numbers, some))
   asks_alone (Err e) bids audit objects (inl out) are is some = inr out
   asks_alone (Err e) bids audit objects (inr wrong) are is some = inl (wants_trail (value_in given) 0 bids audit objects are is refl some e (same_wrong same e wrong))
 
   pub asks_both : (r : Result Words WordsError) (workers bids audit objects : ℕ) → HasSolveOf r rows → AreNumbers (value_in given) workers bids audit objects → is_direct (value_in given) ≡ false
       → (workers ≡ 0 → audit ≡ 0) → HasBoth (value_in given) → IsFromObjects r
-  asks_both (Ok w) workers bids audit objects h are is trail both = let a = asked w h in absurd (a.5.start is both)
+  asks_both (Ok w) workers bids audit objects h are is trail both = let a = asked w h in absurd (a.together.start is both)
   asks_both (Err e) workers bids audit objects (inl out) are is trail both = inr out
   asks_both (Err e) workers bids audit objects (inr wrong) are is trail both =
       inl (wants_both (value_in given) workers bids audit objects are is trail both e (same_wrong same e wrong))
 
   pub asks_watch : (r : Result Words WordsError) (workers bids audit objects : ℕ) → HasSolveOf r rows → AreNumbers (value_in given) workers bids audit objects → is_direct (value_in given) ≡ false
       → (workers ≡ 0 → audit ≡ 0) → (HasBoth (value_in given) → ⊥) → HasWatch (value_in given) → IsWatchAlone r
-  asks_watch (Ok w) workers bids audit objects h are is trail apart watch = let a = asked w h in absurd (a.5.watch is watch)
+  asks_watch (Ok w) workers bids audit objects h are is trail apart watch = let a = asked w h in absurd (a.together.watch is watch)
   asks_watch (Err e) workers bids audit objects (inl out) are is trail apart watch = inr out
   asks_watch (Err e) workers bids audit objects (inr wrong) are is trail apart watch = inl (wants_watch (value_in given) workers bids audit objects are is trail apart watch e (same_wrong same e wrong))
 
   pub asks_large : (r : Result Words WordsError) (workers bids audit objects : ℕ) → HasSolveOf r rows → AreNumbers (value_in given) workers bids audit objects → is_direct (value_in given) ≡ false
       → (workers ≡ 0 → audit ≡ 0) → (HasBoth (value_in given) → ⊥) → (HasWatch (value_in given) → ⊥) → is_large (value_in given) ≡ true → IsLargeAlone r
-  asks_large (Ok w) workers bids audit objects h are is trail apart unwatched large = let a = asked w h in let k = sym (a.5.large is) ∙ large in absurd cc
+  asks_large (Ok w) workers bids audit objects h are is trail apart unwatched large = let a = asked w h in let k = sym (a.together.large is) ∙ large in absurd cc
   asks_large (Err e) workers bids audit objects (inl out) are is trail apart unwatched large = inr out
   asks_large (Err e) workers bids audit objects (inr wrong) are is trail apart unwatched large =
       inl (wants_large (value_in given) workers bids audit objects are is trail apart unwatched e (same_wrong same e wrong))
 
   pub asks_watched : (r : Result Words WordsError) → HasSolveOf r rows → IfOk r (λ w. IsWatchedBy (value_in given) w.watching)
-  asks_watched (Ok w) h = same_watched same w.watching h.2
+  asks_watched (Ok w) h = same_watched same w.watching h.watched
   asks_watched (Err e) h = tt
 
 -- ---- the matches' first values are those of their rows
@@ -350,7 +359,7 @@ module _ (rows : List Row) (given : List (Text × Text)) (same : (name : Text) �
 -- the job that the options ask for, with the files, watched so
 pub with_files : (r : Result Words WordsError) (rows : List Row) (job : Job) (watching : Watching) → AsksToSolve (λ name. first_of name rows) job → IsWatchedBy (λ name. first_of name rows) watching
     → AsksFor job r (first_of (codes "file") rows) (first_of (codes "from") rows) → IfOk r (λ w. w.watching ≡ watching) → HasSolveOf r rows
-with_files (Ok w) rows job watching asked watched names is = (rw names.0 asked, (refl, names.1, names.2), rw is watched)
+with_files (Ok w) rows job watching asked watched names is = record { solve = rw names.job_is asked; names = record { job_is = refl; first_is = names.first_is; second_is = names.second_is }; watched = rw is watched }
 with_files (Err e) rows job watching asked watched names is = inl names
 
 -- the options ask for no job
@@ -378,7 +387,7 @@ module _ (found : Found) where
     with_objects n is h = rw (← large_by_rows large flag) (go r h)
       where
         go : (r : Result Words WordsError) → AsksFor (job n large) r first second → HasObjectsJob job r large (first_of (codes "objects") (rows_of found)) first second
-        go (Ok w) h = (n, subst (λ (v : Option Text). HasObjects large v n) (first_value-rows found (codes "objects")) is, h)
+        go (Ok w) h = record { objects = n; given = subst (λ (v : Option Text). HasObjects large v n) (first_value-rows found (codes "objects")) is; asked = h }
         go (Err e) h = inl h
 
     pub without_objects : (e : WordsError) → IsErrAnd r (λ x. x ≡ e) → (e ≡ Usage) × ((n : ℕ) → HasObjects large (first_value found (codes "objects")) n → ⊥)

@@ -192,11 +192,11 @@ module _ (command : Text) (rules : List Rule) (left : IsLeft command rules) (opt
   command_fits : (words : List Text) (given : List (Text × Text)) → AreCommand command options flags files words given
       → list_all (λ a. not a.required || is_given a.id (map row_of_value given)) rules ≡ true → Fits words command given
   command_fits words given h required =
-      let level = command_rows command rules options flags files are given h.0 h.2 h.3 required in
-      rw (h.1) (record {
-        taken = command_taken h.0 level.0;
+      let level = command_rows command rules options flags files are given h.rest h.arguments h.distinct required in
+      rw (h.words_are) (record {
+        taken = command_taken h.rest level.0;
         rows = map row_of_value given;
-        found = command_found h.0 ∙ ap (λ rows. Some (command, rows)) level.1;
+        found = command_found h.rest ∙ ap (λ rows. Some (command, rows)) level.1;
         values = first_values given;
       })
 
@@ -263,8 +263,13 @@ usual_numbers (Some file) = record { of_workers = refl; of_bids = refl; of_audit
 
 only_named : (command : Text) (options flags : List Text) (id : Text) (words : List Text) (name : Option Text) → AreJob command words name → AreCommand command options flags (id ∷ []) words (named id name)
 unfolding IsDistinct
-only_named command options flags id words None h = ([], h, refl, tt)
-only_named command options flags id words (Some name) h = (name ∷ [], h.1, ([], name ∷ [], [], inl (refl, h.0, refl), refl, refl), (tt, tt))
+only_named command options flags id words None h = record { rest = []; words_are = h; arguments = refl; distinct = tt }
+only_named command options flags id words (Some name) h = record {
+  rest = name ∷ [];
+  words_are = h.1;
+  arguments = record { left = []; front = name ∷ []; rest = []; one = inl (record { next = refl; name = h.0; words_are = refl }); others = refl; words_are = refl };
+  distinct = (tt, tt);
+}
 
 pub plain_solve_fits : (words : List Text) (file : Option Text) → AreJob (codes "solve") words file → Fits words (codes "solve") (named (codes "file") file)
 plain_solve_fits words file h = solve_fits words (named (codes "file") file) (only_named (codes "solve") solve_options solve_flags (codes "file") words file h)
@@ -294,14 +299,29 @@ no_objects file (Some cert) = refl
 
 plain_check : (words : List Text) (file : Text) (cert : Option Text) → AreCheck words file cert → AreCheckOf words (both_named file cert)
 unfolding IsDistinct
-plain_check words file None h = ((file ∷ [], h.1, (codes "cert" ∷ [], file ∷ [], [], inl (refl, h.0, refl), refl, refl), (tt, tt)), refl)
+plain_check words file None h = (
+  record {
+    rest = file ∷ [];
+    words_are = h.1;
+    arguments = record { left = codes "cert" ∷ []; front = file ∷ []; rest = []; one = inl (record { next = refl; name = h.0; words_are = refl }); others = refl; words_are = refl };
+    distinct = (tt, tt);
+  },
+  refl,
+)
 plain_check words file (Some cert) h = (
-  (
-    file ∷ cert ∷ [],
-    h.2,
-    (codes "cert" ∷ [], file ∷ [], cert ∷ [], inl (refl, h.0, refl), ([], cert ∷ [], [], inl (refl, h.1, refl), refl, refl), refl),
-    ((refl, tt), (tt, tt)),
-  ),
+  record {
+    rest = file ∷ cert ∷ [];
+    words_are = h.words_are;
+    arguments = record {
+      left = codes "cert" ∷ [];
+      front = file ∷ [];
+      rest = cert ∷ [];
+      one = inl (record { next = refl; name = h.file_name; words_are = refl });
+      others = record { left = []; front = cert ∷ []; rest = []; one = inl (record { next = refl; name = h.cert_name; words_are = refl }); others = refl; words_are = refl };
+      words_are = refl;
+    };
+    distinct = ((refl, tt), (tt, tt));
+  },
   refl,
 )
 
@@ -316,26 +336,26 @@ example_given = (codes "audit", codes "5") ∷ (codes "file", codes "problem") �
 
 example_words : AreSolve (codes "solve" ∷ codes "--audit=5" ∷ codes "problem" ∷ codes "--workers" ∷ codes "+02" ∷ []) example_given
 unfolding IsDistinct example_given
-example_words = (
-  codes "--audit=5" ∷ codes "problem" ∷ codes "--workers" ∷ codes "+02" ∷ [],
-  refl,
-  (
-    codes "file" ∷ [],
-    codes "--audit=5" ∷ [],
-    codes "problem" ∷ codes "--workers" ∷ codes "+02" ∷ [],
-    inr (inl (inr (inr (inl refl)), inr refl, refl)),
-    (
-      [],
-      codes "problem" ∷ [],
-      codes "--workers" ∷ codes "+02" ∷ [],
-      inl (refl, search obvious, refl),
-      ([], codes "--workers" ∷ codes "+02" ∷ [], [], inr (inl (inl refl, inl (search obvious, refl), refl)), refl, refl),
-      refl,
-    ),
-    refl,
-  ),
-  ((refl, (refl, tt)), ((refl, tt), (tt, tt))),
-)
+example_words = record {
+  rest = codes "--audit=5" ∷ codes "problem" ∷ codes "--workers" ∷ codes "+02" ∷ [];
+  words_are = refl;
+  arguments = record {
+    left = codes "file" ∷ [];
+    front = codes "--audit=5" ∷ [];
+    rest = codes "problem" ∷ codes "--workers" ∷ codes "+02" ∷ [];
+    one = inr (inl (inr (inr (inl refl)), inr refl, refl));
+    others = record {
+      left = [];
+      front = codes "problem" ∷ [];
+      rest = codes "--workers" ∷ codes "+02" ∷ [];
+      one = inl (record { next = refl; name = search obvious; words_are = refl });
+      others = record { left = []; front = codes "--workers" ∷ codes "+02" ∷ []; rest = []; one = inr (inl (inl refl, inl (search obvious, refl), refl)); others = refl; words_are = refl };
+      words_are = refl;
+    };
+    words_are = refl;
+  };
+  distinct = ((refl, (refl, tt)), ((refl, tt), (tt, tt)));
+}
 
 example_numbers : AreNumbers (value_in example_given) 2 100000000 5 0
 unfolding example_given
@@ -346,26 +366,26 @@ direct_given = (codes "bids", codes "9") ∷ (codes "direct", codes "true") ∷ 
 
 direct_words : AreSolve (codes "solve" ∷ codes "--bids=9" ∷ codes "--direct" ∷ codes "problem" ∷ []) direct_given
 unfolding IsDistinct direct_given
-direct_words = (
-  codes "--bids=9" ∷ codes "--direct" ∷ codes "problem" ∷ [],
-  refl,
-  (
-    codes "file" ∷ [],
-    codes "--bids=9" ∷ [],
-    codes "--direct" ∷ codes "problem" ∷ [],
-    inr (inl (inr (inl refl), inr refl, refl)),
-    (
-      codes "file" ∷ [],
-      codes "--direct" ∷ [],
-      codes "problem" ∷ [],
-      inr (inr ((inl refl, refl, refl), refl)),
-      ([], codes "problem" ∷ [], [], inl (refl, search obvious, refl), refl, refl),
-      refl,
-    ),
-    refl,
-  ),
-  ((refl, (refl, tt)), ((refl, tt), (tt, tt))),
-)
+direct_words = record {
+  rest = codes "--bids=9" ∷ codes "--direct" ∷ codes "problem" ∷ [];
+  words_are = refl;
+  arguments = record {
+    left = codes "file" ∷ [];
+    front = codes "--bids=9" ∷ [];
+    rest = codes "--direct" ∷ codes "problem" ∷ [];
+    one = inr (inl (inr (inl refl), inr refl, refl));
+    others = record {
+      left = codes "file" ∷ [];
+      front = codes "--direct" ∷ [];
+      rest = codes "problem" ∷ [];
+      one = inr (inr (record { name = inl refl; value = refl; words_are = refl }, refl));
+      others = record { left = []; front = codes "problem" ∷ []; rest = []; one = inl (record { next = refl; name = search obvious; words_are = refl }); others = refl; words_are = refl };
+      words_are = refl;
+    };
+    words_are = refl;
+  };
+  distinct = ((refl, (refl, tt)), ((refl, tt), (tt, tt)));
+}
 
 check_given : List (Text × Text)
 check_given = (codes "file", codes "problem") ∷ (codes "objects", codes "3") ∷ (codes "cert", codes "claim") ∷ []
@@ -373,26 +393,26 @@ check_given = (codes "file", codes "problem") ∷ (codes "objects", codes "3") �
 check_words : AreCheckOf (codes "check" ∷ codes "problem" ∷ codes "--objects=3" ∷ codes "claim" ∷ []) check_given
 unfolding IsDistinct check_given
 check_words = (
-  (
-    codes "problem" ∷ codes "--objects=3" ∷ codes "claim" ∷ [],
-    refl,
-    (
-      codes "cert" ∷ [],
-      codes "problem" ∷ [],
-      codes "--objects=3" ∷ codes "claim" ∷ [],
-      inl (refl, search obvious, refl),
-      (
-        codes "cert" ∷ [],
-        codes "--objects=3" ∷ [],
-        codes "claim" ∷ [],
-        inr (inl (inl refl, inr refl, refl)),
-        ([], codes "claim" ∷ [], [], inl (refl, search obvious, refl), refl, refl),
-        refl,
-      ),
-      refl,
-    ),
-    ((refl, (refl, tt)), ((refl, tt), (tt, tt))),
-  ),
+  record {
+    rest = codes "problem" ∷ codes "--objects=3" ∷ codes "claim" ∷ [];
+    words_are = refl;
+    arguments = record {
+      left = codes "cert" ∷ [];
+      front = codes "problem" ∷ [];
+      rest = codes "--objects=3" ∷ codes "claim" ∷ [];
+      one = inl (record { next = refl; name = search obvious; words_are = refl });
+      others = record {
+        left = codes "cert" ∷ [];
+        front = codes "--objects=3" ∷ [];
+        rest = codes "claim" ∷ [];
+        one = inr (inl (inl refl, inr refl, refl));
+        others = record { left = []; front = codes "claim" ∷ []; rest = []; one = inl (record { next = refl; name = search obvious; words_are = refl }); others = refl; words_are = refl };
+        words_are = refl;
+      };
+      words_are = refl;
+    };
+    distinct = ((refl, (refl, tt)), ((refl, tt), (tt, tt)));
+  },
   refl,
 )
 
@@ -401,26 +421,26 @@ large_given = (codes "objects", codes "20001") ∷ (codes "file", codes "problem
 
 large_words : AreHallOf (codes "hall" ∷ codes "--objects=20001" ∷ codes "problem" ∷ codes "--large" ∷ []) large_given
 unfolding IsDistinct large_given
-large_words = (
-  codes "--objects=20001" ∷ codes "problem" ∷ codes "--large" ∷ [],
-  refl,
-  (
-    codes "file" ∷ [],
-    codes "--objects=20001" ∷ [],
-    codes "problem" ∷ codes "--large" ∷ [],
-    inr (inl (inl refl, inr refl, refl)),
-    (
-      [],
-      codes "problem" ∷ [],
-      codes "--large" ∷ [],
-      inl (refl, search obvious, refl),
-      ([], codes "--large" ∷ [], [], inr (inr ((inl refl, refl, refl), refl)), refl, refl),
-      refl,
-    ),
-    refl,
-  ),
-  ((refl, (refl, tt)), ((refl, tt), (tt, tt))),
-)
+large_words = record {
+  rest = codes "--objects=20001" ∷ codes "problem" ∷ codes "--large" ∷ [];
+  words_are = refl;
+  arguments = record {
+    left = codes "file" ∷ [];
+    front = codes "--objects=20001" ∷ [];
+    rest = codes "problem" ∷ codes "--large" ∷ [];
+    one = inr (inl (inl refl, inr refl, refl));
+    others = record {
+      left = [];
+      front = codes "problem" ∷ [];
+      rest = codes "--large" ∷ [];
+      one = inl (record { next = refl; name = search obvious; words_are = refl });
+      others = record { left = []; front = codes "--large" ∷ []; rest = []; one = inr (inr (record { name = inl refl; value = refl; words_are = refl }, refl)); others = refl; words_are = refl };
+      words_are = refl;
+    };
+    words_are = refl;
+  };
+  distinct = ((refl, (refl, tt)), ((refl, tt), (tt, tt)));
+}
 
 large_number : HasObjects (is_large (value_in large_given)) (value_in large_given (codes "objects")) 20001
 unfolding large_given

@@ -174,13 +174,16 @@ module _ (command : Text) (rules : List Rule) where
   -- ---- the value that waits is used
 
   -- the argument has a rule of this name
-  abbrev IsKnown : Text → Type 0
-  IsKnown name = (long : Option Text) × (index : Option ℕ) × (required : Bool) × (arg_by_id rules name ≡ Some (built_rule name long index required))
+  record IsKnown (name : Text) : Type 0 where
+    long : Option Text
+    index : Option ℕ
+    required : Bool
+    by_id : arg_by_id rules name ≡ Some (built_rule name long index required)
 
   waits_in : (given : Text × Text) (rows : List Row) → IsKnown given.0 → has_row given.0 rows ≡ false
       → (settled_rows rules (Some (given.0, given.1 ∷ [])) rows ≡ rows ++ row_of_value given ∷ [])
       × ((position : ℕ) → settle_passes rules false (walk_at rows (Some (given.0, given.1 ∷ [])) position).held ≡ true)
-  waits_in given rows known fresh = let row = new_row given rows fresh in (simp (known.3, row), λ position. simp (known.3, fresh))
+  waits_in given rows known fresh = let row = new_row given rows fresh in (simp (known.by_id, row), λ position. simp (known.by_id, fresh))
 
   -- ---- word by word
 
@@ -237,15 +240,15 @@ module _ (command : Text) (rules : List Rule) where
     argument_goes : (w : Walk) (rows : List Row) (files left : List Text) (given : Text × Text) (front : List Text) → Stands w rows files → AreArgument options flags files left given front
         → has_row given.0 rows ≡ false → Goes w front (rows ++ row_of_value given ∷ []) left
     argument_goes w rows files left given front s (inl file) fresh =
-        let place : HasFiles rules s.position (given.0 ∷ left) = rw file.0 at s.place in
-        let step = file_word s.so_far rows s.pending s.position s.settles s.passes given.0 given.1 place.0 file.1 in
-        let stands = stands_waiting given rows _ left (None, Some s.position, place.0.required, place.0.by_id) fresh place.1 in
-        rw (file.2, s.is) (one_goes _ _ given.1 _ left step.0 step.1 stands)
+        let place : HasFiles rules s.position (given.0 ∷ left) = rw file.next at s.place in
+        let step = file_word s.so_far rows s.pending s.position s.settles s.passes given.0 given.1 place.0 file.name in
+        let stands = stands_waiting given rows _ left (record { long = None; index = Some s.position; required = place.0.required; by_id = place.0.by_id }) fresh place.1 in
+        rw (file.words_are, s.is) (one_goes _ _ given.1 _ left step.0 step.1 stands)
     argument_goes w rows files left given front s (inr (inl (name, inl two, same))) fresh =
         let has = one_of (HasOption rules) options given.0 known name in
         let word = option_word s.so_far rows s.pending s.position s.settles s.passes given.0 has in
         let step = value_word rows given.0 given.1 s.position has two.0 in
-        let stands = stands_waiting given rows s.position left (Some given.0, None, false, has.by_id) fresh (rw same at s.place) in
+        let stands = stands_waiting given rows s.position left (record { long = Some given.0; index = None; required = false; by_id = has.by_id }) fresh (rw same at s.place) in
         let last = one_goes _ _ given.1 _ left step.0 step.1 stands in
         rw (two.1, s.is) (record { taken = two_taken _ _ _ _ word.0 word.1 last.taken; stands = rw word.1 last.stands })
     argument_goes w rows files left given front s (inr (inl (name, inr one, same))) fresh =
@@ -255,11 +258,11 @@ module _ (command : Text) (rules : List Rule) where
         record { so_far = rows ++ row_of_value given ∷ []; pending = None; position = s.position; is = refl; settles = refl; passes = refl; place = rw same at s.place } in
         rw (one, s.is) (one_goes _ _ _ _ left step.0 step.1 stands)
     argument_goes w rows files left given front s (inr (inr (is, same))) fresh =
-        let has = one_of (HasFlag rules) flags given.0 known_flags is.0 in
+        let has = one_of (HasFlag rules) flags given.0 known_flags is.name in
         let step = flag_word s.so_far rows s.pending s.position s.settles s.passes given.0 has fresh in
         let stands : Stands (walk_at (rows ++ row_of_value (given.0, codes "true") ∷ []) None s.position) (rows ++ row_of_value (given.0, codes "true") ∷ []) left =
         record { so_far = rows ++ row_of_value (given.0, codes "true") ∷ []; pending = None; position = s.position; is = refl; settles = refl; passes = refl; place = rw same at s.place } in
-        rw (is.1, is.2, s.is) (one_goes _ _ _ _ left step.0 step.1 stands)
+        rw (is.value, is.words_are, s.is) (one_goes _ _ _ _ left step.0 step.1 stands)
 
     -- ---- all words
 
@@ -268,9 +271,9 @@ module _ (command : Text) (rules : List Rule) where
     unfolding walk_passes IsDistinct
     all_go [] words w rows files s h distinct fresh = (files, rw (h, append-nil rows) (record { taken = refl; stands = s }))
     all_go (first ∷ given) words w rows files s h distinct fresh =
-        let one = argument_goes w rows files h.0 first h.1 s h.3 fresh.0 in
-        let rest = all_go given h.2 _ (rows ++ row_of_value first ∷ []) h.0 one.stands h.4 distinct.1 (still_absent first rows (keys_of given) distinct.0 fresh.1) in
-        (rest.0, rw (h.5, ← append_assoc rows (row_of_value first ∷ []) (map row_of_value given)) (goes_on w h.1 h.2 _ _ h.0 rest.0 one rest.1))
+        let one = argument_goes w rows files h.left first h.front s h.one fresh.0 in
+        let rest = all_go given h.rest _ (rows ++ row_of_value first ∷ []) h.left one.stands h.others distinct.1 (still_absent first rows (keys_of given) distinct.0 fresh.1) in
+        (rest.0, rw (h.words_are, ← append_assoc rows (row_of_value first ∷ []) (map row_of_value given)) (goes_on w h.front h.rest _ _ h.left rest.0 one rest.1))
 
   -- the rules are those of a command with these options, these flags and these positionals
   pub record AreRules (options flags files : List Text) : Type 0 where

@@ -20,30 +20,46 @@ abbrev pub AreOption : List ℕ → List ℕ → List (List ℕ) → Type 0
 AreOption option value words = (IsName value × (words ≡ option ∷ value ∷ [])) ⊎ (words ≡ (option ++ codes "=" ++ value) ∷ [])
 
 -- the words are one of these flags, which has no value, and stands for `true`
-abbrev pub IsFlag : List (List ℕ) → List ℕ × List ℕ → List (List ℕ) → Type 0
-IsFlag flags given words = IsOneOf given.0 flags × (given.1 ≡ codes "true") × (words ≡ (codes "--" ++ given.0) ∷ [])
+pub record IsFlag (flags : List (List ℕ)) (given : List ℕ × List ℕ) (words : List (List ℕ)) : Type 0 where
+  pub name : IsOneOf given.0 flags
+  pub value : given.1 ≡ codes "true"
+  pub words_are : words ≡ (codes "--" ++ given.0) ∷ []
+
+-- the words give the next of these files its name, and then the others are left
+pub record IsNextFile (files left : List (List ℕ)) (given : List ℕ × List ℕ) (words : List (List ℕ)) : Type 0 where
+  pub next : files ≡ given.0 ∷ left
+  pub name : IsName given.1
+  pub words_are : words ≡ given.1 ∷ []
 
 -- the words give an argument its value: the next of these files its name, and then the others are left; or one of these
 -- options its value; or they are one of these flags
 abbrev pub AreArgument : List (List ℕ) → List (List ℕ) → List (List ℕ) → List (List ℕ) → List ℕ × List ℕ → List (List ℕ) → Type 0
-AreArgument options flags files left given words = ((files ≡ given.0 ∷ left) × IsName given.1 × (words ≡ given.1 ∷ []))
+AreArgument options flags files left given words = IsNextFile files left given words
     ⊎ ((IsOneOf given.0 options × AreOption (codes "--" ++ given.0) given.1 words × (files ≡ left)) ⊎ (IsFlag flags given words × (files ≡ left)))
+
+-- the words in front are those of one argument, after which these files are left, and the rest those of the others
+pub record AreOneAndOthers (One Others : List (List ℕ) → List (List ℕ) → Type 0) (words : List (List ℕ)) : Type 0 where
+  pub left : List (List ℕ)
+  pub front : List (List ℕ)
+  pub rest : List (List ℕ)
+  pub one : One left front
+  pub others : Others left rest
+  pub words_are : words ≡ front ++ rest
 
 -- the words give these arguments their values, one after the other: files in their order, and options and flags
 -- anywhere among them
 abbrev pub AreArguments : List (List ℕ) → List (List ℕ) → List (List ℕ) → List (List ℕ × List ℕ) → List (List ℕ) → Type 0
 AreArguments options flags files [] words = words ≡ []
 AreArguments options flags files (first ∷ given) words =
-    (left : List (List ℕ)) × (front : List (List ℕ)) × (rest : List (List ℕ))
-    × AreArgument options flags files left first front × AreArguments options flags left given rest
-    × (words ≡ front ++ rest)
+    AreOneAndOthers (λ left front. AreArgument options flags files left first front) (λ left rest. AreArguments options flags left given rest) words
 
 -- the words are a command with these options, these flags and these files, and give these arguments their values, in
 -- this order and none twice
-abbrev pub AreCommand : List ℕ → List (List ℕ) → List (List ℕ) → List (List ℕ) → List (List ℕ) → List (List ℕ × List ℕ) → Type 0
-AreCommand command options flags files words given =
-    (rest : List (List ℕ)) × (words ≡ command ∷ rest) × AreArguments options flags files given rest
-    × IsDistinct bytes_eq (keys_of given)
+pub record AreCommand (command : List ℕ) (options flags files words : List (List ℕ)) (given : List (List ℕ × List ℕ)) : Type 0 where
+  pub rest : List (List ℕ)
+  pub words_are : words ≡ command ∷ rest
+  pub arguments : AreArguments options flags files given rest
+  pub distinct : IsDistinct bytes_eq (keys_of given)
 
 -- the value of an argument, where it is given
 abbrev pub value_in : List (List ℕ × List ℕ) → List ℕ → Option (List ℕ)
@@ -78,7 +94,13 @@ abbrev pub AreJob : List ℕ → List (List ℕ) → Option (List ℕ) → Type 
 AreJob command words None = words ≡ command ∷ []
 AreJob command words (Some name) = IsName name × (words ≡ command ∷ name ∷ [])
 
+-- the words are `check` and these two names
+pub record AreCheckAndNames (words : List (List ℕ)) (file cert : List ℕ) : Type 0 where
+  pub file_name : IsName file
+  pub cert_name : IsName cert
+  pub words_are : words ≡ codes "check" ∷ file ∷ cert ∷ []
+
 -- the words are `check` and the name of a file, and may have the name of a certificate
 abbrev pub AreCheck : List (List ℕ) → List ℕ → Option (List ℕ) → Type 0
 AreCheck words file None = IsName file × (words ≡ codes "check" ∷ file ∷ [])
-AreCheck words file (Some cert) = IsName file × IsName cert × (words ≡ codes "check" ∷ file ∷ cert ∷ [])
+AreCheck words file (Some cert) = AreCheckAndNames words file cert

@@ -6,9 +6,15 @@ use Rattle.auction.specs.declared.asked.Words.{Words}
 use Rattle.auction.specs.declared.words_error.WordsError.{WordsError}
 use Rattle.auction.specs.declared.words_error.WordsError.TheVariants.{Usage, AuditAlone, NoMemory, FromObjects, DirectThreads, WatchAlone, LargeAlone}
 
+-- the words are this job on these files
+pub record AreJobOn (job : Job) (w : Words) (first second : Option (List ℕ)) : Type 0 where
+  pub job_is : w.job ≡ job
+  pub first_is : option_map string_bytes w.first ≡ first
+  pub second_is : option_map string_bytes w.second ≡ second
+
 -- the words were read as this job on these files, unless memory ran out
 abbrev pub AsksFor : Job → Result Words WordsError → Option (List ℕ) → Option (List ℕ) → Type 0
-AsksFor job (Ok w) first second = (w.job ≡ job) × (option_map string_bytes w.first ≡ first) × (option_map string_bytes w.second ≡ second)
+AsksFor job (Ok w) first second = AreJobOn job w first second
 AsksFor job (Err e) first second = e ≡ NoMemory
 
 -- the words are no job, unless memory ran out

@@ -101,11 +101,14 @@ AreTogether values workers audit (Err LargeAlone) =
     (is_direct values ≡ false) × (workers ≡ 0 → audit ≡ 0) × (¬ HasBoth values) × (¬ HasWatch values) × (is_large values ≡ true)
 
 -- the solve that the options' values ask for: with their numbers, where these go together
-abbrev pub AsksToSolve : (List ℕ → Option (List ℕ)) → Job → Type 0
-AsksToSolve values job =
-    (workers : ℕ) × (bids : ℕ) × (audit : ℕ) × (objects : ℕ) × AreNumbers values workers bids audit objects
-    × GoTogether values workers audit
-    × (job ≡ Solve workers bids audit objects (is_some (values (codes "from"))) (is_direct values) (is_large values))
+pub record AsksToSolve (values : List ℕ → Option (List ℕ)) (job : Job) : Type 0 where
+  pub workers : ℕ
+  pub bids : ℕ
+  pub audit : ℕ
+  pub objects : ℕ
+  pub numbers : AreNumbers values workers bids audit objects
+  pub together : GoTogether values workers audit
+  pub job_is : job ≡ Solve workers bids audit objects (is_some (values (codes "from"))) (is_direct values) (is_large values)
 
 -- all numbers are in their ranges, and these don't go together: the direct solver, and threads or a trail
 pub record WantThreads (values : List ℕ → Option (List ℕ)) : Type 0 where
@@ -177,16 +180,28 @@ abbrev pub IsSolveOf : (List ℕ → Option (List ℕ)) → Result SolveAsked Wo
 IsSolveOf values (Ok solve) = AsksToSolve values solve.job × IsWatchedBy values solve.watching
 IsSolveOf values (Err e) = AskWrongly values e
 
+-- the words ask for the solve that these rows ask for, of the files that they name, and watched so
+pub record IsSolveOfRows (w : Words) (rows : List Row) : Type 0 where
+  pub solve : AsksToSolve (λ name. first_of name rows) w.job
+  pub names : AsksFor w.job (Ok w) (first_of (codes "file") rows) (first_of (codes "from") rows)
+  pub watched : IsWatchedBy (λ name. first_of name rows) w.watching
+
 -- the words were read as the solve that a subcommand's matches ask for, of the files that they name, and watched so; or
 -- refused, where they ask for none, or memory ran out
 abbrev pub HasSolveOf : Result Words WordsError → List Row → Type 0
-HasSolveOf (Ok w) rows = AsksToSolve (λ name. first_of name rows) w.job × AsksFor w.job (Ok w) (first_of (codes "file") rows) (first_of (codes "from") rows) × IsWatchedBy (λ name. first_of name rows) w.watching
+HasSolveOf (Ok w) rows = IsSolveOfRows w rows
 HasSolveOf (Err e) rows = (e ≡ NoMemory) ⊎ AskWrongly (λ name. first_of name rows) e
+
+-- the words ask for the job with the number of objects that this value gives, of a large problem or not, on these files
+pub record IsJobOfObjects (job : ℕ → Bool → Job) (w : Words) (large : Bool) (value first second : Option (List ℕ)) : Type 0 where
+  pub objects : ℕ
+  pub given : HasObjects large value objects
+  pub asked : AsksFor (job objects large) (Ok w) first second
 
 -- the words were read as the job with the number of objects that this value gives, of a large problem or not, on these
 -- files; or refused, where it gives none, or memory ran out
 abbrev pub HasObjectsJob : (ℕ → Bool → Job) → Result Words WordsError → Bool → Option (List ℕ) → Option (List ℕ) → Option (List ℕ) → Type 0
-HasObjectsJob job (Ok w) large value first second = (objects : ℕ) × HasObjects large value objects × AsksFor (job objects large) (Ok w) first second
+HasObjectsJob job (Ok w) large value first second = IsJobOfObjects job w large value first second
 HasObjectsJob job (Err e) large value first second = (e ≡ NoMemory) ⊎ ((e ≡ Usage) × ((objects : ℕ) → ¬ HasObjects large value objects))
 
 -- the words were read as the check, or the hall, that a subcommand's matches ask for

@@ -40,17 +40,14 @@ pub(crate) struct Shortlist {
 }
 
 impl Model for Shortlist {
-    ghost use Rattle.std.specs.Prelude.{true, ◌≡◌, ◌≤◌, ◌^◌, ◌≤ℤ◌, pos, length, take};
-    ghost use Rattle.auc_persons.specs.Candidates.{Listed};
-    ghost use Rattle.auc_persons.specs.Rising.{IsRisingRow};
-    ghost use Rattle.auc_persons.specs.Search.{IsFound};
+    ghost use Rattle.std.specs.Prelude.{take};
+    ghost use Rattle.auc_persons.specs.Candidates.{AreListParts, Listed};
 
     ghost Value = { Listed };
 
     ghost view = { λ s. record { person = s.person; bound = s.bound; arcs = take s.count s.arcs } };
 
-    ghost invariant = { λ s. (s.count ≤ 24) × (length s.arcs ≡ 24) × (pos 1 ≤ℤ s.delta) × (s.delta ≤ℤ pos (2 ^ 60))
-        × (s.bound ≤ℤ pos (2 ^ 62)) × (s.rises ≡ true → IsRisingRow (take s.count s.arcs)) };
+    ghost invariant = { λ s. AreListParts s.count s.arcs s.delta s.bound s.rises };
 }
 
 impl Shortlist {

@@ -29,4 +29,4 @@ returns-clause-some c =
     let wide : FitsSigned w128 c.cost_of.result = search rules in
     let narrow : FitsSigned w64 c.in-Ok.cost = search rules in
     let is = simp to_z-of_z at c.in-Ok.ensures.1 in
-    simp to_z-of_z (rw (c.with_places.ensures, c.new.ensures) (chosen 0 c.in-Some.picks.items, choice, claim_is c.in-Ok.cost c.in-Some.picks.items c.args.gathered.prices.items (is ∙ cost)))
+    simp to_z-of_z (rw (c.with_places.ensures, c.new.ensures) (record { choice = chosen 0 c.in-Some.picks.items; held = choice; claim_is = claim_is c.in-Ok.cost c.in-Some.picks.items c.args.gathered.prices.items (is ∙ cost) }))

@@ -17,4 +17,4 @@ returns c =
     let known = c.requires.passes in
     let sound = passed_claim c.args.problem.now c.args.gathered.holders.items c.args.gathered.prices.items c.in-Some.parts made known.0 known.1 known.2 in
     let same = c.in-Ok.ensures.same in
-    (made.0, made.1, same ∙ made.2, subst (IsCertified c.args.problem.now) (sym same) sound)
+    (made.choice, made.held, same ∙ made.claim_is, subst (IsCertified c.args.problem.now) (sym same) sound)

@@ -24,7 +24,7 @@ returns-clause-found c =
     let rest = c.in-Some-second_line_of.found.1.now in
     let front = is_front c.args.large c.args.bytes.now v c.in-Some.found.1.now second rest c.in-Some.ensures c.in-Some-second_line_of.ensures in
     if_read c.parts_of.result (λ p. IsSpelledIn v p × (text_in v p ≡ head_line v ++ (second_line v second ++ rest))) (IsTextOf c.args.large c.args.bytes.now)
-    (λ p is. (v, front.taken, is.0, front.text ∙ sym is.1)) c.parts_of.ensures.found
+    (λ p is. record { form = v; taken = front.taken; spelled = is.0; text_is = front.text ∙ sym is.1 }) c.parts_of.ensures.found
 
 pub returns-clause-line : goal.returns-clause-line
 returns-clause-line c =

@@ -25,5 +25,5 @@ returns-clause-exact c = λ reason.
 
 pub returns-clause-allowed : goal.returns-clause-allowed
 returns-clause-allowed c = λ reason ok.
-    faultless_is_allowed c.args.problem.now (Bracket reason c.args.lower c.args.cost c.args.choice.now c.args.prices.now) c.check_bound.ensures.problem (c.ranges.lower, c.ranges.cost, c.requires)
+    faultless_is_allowed c.args.problem.now (Bracket reason c.args.lower c.args.cost c.args.choice.now c.args.prices.now) c.check_bound.ensures.problem (record { lower_fits = c.ranges.lower; cost_fits = c.ranges.cost; choice = c.requires })
     (ok_is_none c.check_bound.result (fault_of c.args.problem.now (Bracket reason c.args.lower c.args.cost c.args.choice.now c.args.prices.now)) ok (returns-clause-exact c reason))

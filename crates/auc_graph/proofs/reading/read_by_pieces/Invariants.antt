@@ -11,5 +11,9 @@ invariant-loop-done g l = record {
   long : length l.piece ≡ length l.fn.piece;
   sound : IsKnown l.limits.arcs l.known l.arcs.items;
   plain : IsPlain (take l.kept l.piece);
-  told : (text : List ℕ) × Consumes (g.R.Read.remaining l.fn.reader) (g.R.Read.remaining l.reader) text × (l._done ≤ length text) × ((more : List ℕ) → reading l.limits.persons l.limits.arcs l.limits.objects (text ++ more) ≡ reading_from l.limits.arcs l.known l.arcs.items (take l.kept l.piece ++ more));
+  -- the text so far, of at least a byte a read, and what it comes to with the bytes behind it
+  text : List ℕ;
+  taken : Consumes (g.R.Read.remaining l.fn.reader) (g.R.Read.remaining l.reader) text;
+  done : l._done ≤ length text;
+  reads : (more : List ℕ) → reading l.limits.persons l.limits.arcs l.limits.objects (text ++ more) ≡ reading_from l.limits.arcs l.known l.arcs.items (take l.kept l.piece ++ more);
 }

@@ -6,9 +6,13 @@ use Rattle.auc_hall.specs.Search.{IsAugmentingPath}
 use Rattle.auc_hall.specs.Completion.IsGrown.{stays}
 use Rattle.auc_hall.proofs.CompletionLaws.{grown_by, hall_answers}
 use Rattle.auc_hall.proofs.AnswerLaws.{is_assignment, done_more, walked_same}
-use Rattle.auc_hall.proofs.MatchedLaws.{holders_of}
-use Rattle.auc_hall.proofs.Options.{some_of}
+use Rattle.auc_hall.proofs.MatchedLaws.{holders_of, holds_nothing}
+use Rattle.auc_hall.proofs.Options.{none_of, some_of}
 use Rattle.auc_hall.proofs.completion.complete_parts.Goals as goal
+
+pub find-requires-clause-free : goal.find-requires-clause-free
+find-requires-clause-free c =
+    holds_nothing c.loop-person.choice c.loop-person.holder c.loop-person.person c.loop-person.invariant.matched.tied (none_of (get_or c.loop-person.choice c.loop-person.person None) c.if-is_some.ensures)
 
 pub loop-person-preserved-then-is_some : goal.loop-person-preserved-then-is_some
 loop-person-preserved-then-is_some c =
@@ -23,7 +27,11 @@ loop-person-preserved-then-is_some c =
     }
 
 pub returns-clause-matching : goal.returns-clause-matching
-returns-clause-matching c = (chosen c.loop-person.choice, is_assignment c.args.rows.now c.loop-person.choice c.loop-person.holder c.loop-person.invariant.matched (λ i lt. c.loop-person.invariant.done i (omega arith)), c.new.ensures ∙ c.in_ok-numbers_of.ensures)
+returns-clause-matching c = record {
+  choice = chosen c.loop-person.choice;
+  assigned = is_assignment c.args.rows.now c.loop-person.choice c.loop-person.holder c.loop-person.invariant.matched (λ i lt. c.loop-person.invariant.done i (omega arith));
+  numbers_are = c.new.ensures ∙ c.in_ok-numbers_of.ensures;
+}
 
 pub returns-in-None-clause-grown : goal.returns-in-None-clause-grown
 returns-in-None-clause-grown c = hall_answers c.args.rows.now c.args.choice.now c.hall_set.result c.hall_set.ensures.hall

@@ -45,4 +45,4 @@ returns-then-is_some-2-clause-cause c h =
     let his = subst (λ (r : List RowArc). Contains r c.in-Some.found) c.row.ensures.row c.in-Some.ensures.found.0 in
     let taken = some_of (get_or c.args.holder.now c.in-Some.found.object None) c.if-is_some-2.ensures in
     let holds = c.requires.matched.tied.held c.in-Some.found.object taken.0 taken.1 in
-    IsNotPlaced.object_held c.in-Some.found holds.0 taken.0 (none_of (get_or c.args.choice.now c.args.person None) c.if-is_some.ensures) his c.in-Some.ensures.found.1 holds.1 holds.2
+    IsNotPlaced.object_held c.in-Some.found holds.arc taken.0 (none_of (get_or c.args.choice.now c.args.person None) c.if-is_some.ensures) his c.in-Some.ensures.found.1 holds.picked holds.object

@@ -9,5 +9,9 @@ abbrev pub invariant-loop-done : goal.invariant-loop-done
 invariant-loop-done g l = record {
   long : length l.piece ≡ PIECE;
   known : IsOpen l.finding;
-  told : (seen : List ℕ) × Consumes (g.R.Read.remaining l.fn.reader) (g.R.Read.remaining l.reader) seen × (l._done ≤ length seen) × (length seen ≤ l._done * PIECE) × IsFinding l.number seen l.finding;
+  seen : List ℕ;
+  taken : Consumes (g.R.Read.remaining l.fn.reader) (g.R.Read.remaining l.reader) seen;
+  least : l._done ≤ length seen;
+  most : length seen ≤ l._done * PIECE;
+  finds : IsFinding l.number seen l.finding;
 }

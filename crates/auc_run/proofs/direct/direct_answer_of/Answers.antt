@@ -9,4 +9,4 @@ returns g c =
     let answer = c.in_ok-answer.answer in
     let is = c.in_ok-answer.ensures in
     let limited = limited_or (g.V.Watch.has_stopped c.args.watch.now) (g.V.Watch.has_stopped c.solve_direct_watched.new.watch) answer (IsLimitedFirst p c.args.numbers.bids answer) is.limit in
-    (read.0, read.1, (p, read.2, is.is, (is.asked, limited)))
+    record { file = read.file; known = read.known; borne = (p, read.borne, is.is, (is.asked, limited)) }

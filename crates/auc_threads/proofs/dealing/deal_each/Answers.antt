@@ -16,7 +16,7 @@ returns-then-matches g c =
 pub returns-then-ne : goal.returns-then-ne
 returns-then-ne g c =
     let deals = c.deal-step.ensures.deals in
-    takes_more _ _ _ _ _ _ _ _ _ _ _ deals.0 _ _ c.loop.invariant.deals c.take-taken.ensures.seat deals.1 deals.2 c.deal-step.ensures.after
+    takes_more _ _ _ _ _ _ _ _ _ _ _ deals.more _ _ c.loop.invariant.deals c.take-taken.ensures.seat deals.behind deals.dealt c.deal-step.ensures.after
 
 pub loop-preserved : goal.loop-preserved
 loop-preserved g c =
@@ -24,6 +24,6 @@ loop-preserved g c =
     let inv = c.loop.invariant in
     let deals = rw on at c.deal-step.ensures.deals in
     record {
-      shards = (with_shape _ _ _ _ _ _ deals.2).person_shards ∙ inv.shards;
-      deals = takes_more _ _ _ _ _ _ _ _ _ _ _ deals.0 _ _ inv.deals c.take-taken.ensures.seat deals.1 deals.2 (rw on at c.deal-step.ensures.after);
+      shards = (with_shape _ _ _ _ _ _ deals.dealt).person_shards ∙ inv.shards;
+      deals = takes_more _ _ _ _ _ _ _ _ _ _ _ deals.more _ _ inv.deals c.take-taken.ensures.seat deals.behind deals.dealt (rw on at c.deal-step.ensures.after);
     }

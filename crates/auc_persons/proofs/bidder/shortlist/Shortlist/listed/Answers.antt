@@ -13,7 +13,7 @@ invariant_of-best-clause-within c =
 
 pub invariant_of-best-clause-rising : goal.invariant_of-best-clause-rising
 invariant_of-best-clause-rising c =
-    rw c.arcs.ensures.value (rw (ap (λ (l : Listed). l.arcs) c.self.view_is) at c.self.invariant.5 c.if-self.true)
+    rw c.arcs.ensures.value (rw (ap (λ (l : Listed). l.arcs) c.self.view_is) at c.self.invariant.rising c.if-self.true)
 
 pub returns-then-self-clause-found : goal.returns-then-self-clause-found
 returns-then-self-clause-found c =

@@ -115,11 +115,11 @@ class Asked:
             raise ValueError(START_FAULTS[3].format(place=outside.argmax()))
         return fast.plain(start)
 
-    def solution(self, start, bids, words=NO_ASSIGNMENT, watch=None):
-        """The Solution, under a watch or None. These words begin an Infeasible."""
+    def solution(self, start, bids, words=NO_ASSIGNMENT, watch=None, asks=True):
+        """The Solution, under a watch or None. These words begin an Infeasible. `asks` says whether the extension wasn't asked before."""
         if self.decimals is not None and start is not None and start.dtype.kind == "f":
             start = start * self.problem.decimal_scale
-        found = self._by_extension(start, bids, watch)
+        found = self._by_extension(start, bids, watch) if asks else None
         if found is None:
             found = self.problem.solution(start, bids, words, watch)
         elif self.decimals is not None:

@@ -86,16 +86,17 @@ def solve(
     """
     is_table = type(rows) is fast.ARRAY and columns is costs is shape is None
     has_no_words = decimals is missing is forced is forbidden is capacity is start is seconds is progress is None
+    found = False
     if is_table and has_no_words:
         # The same road, some steps shorter, since these calls end so soon.
-        solution = fast.solution_of_small(rows, maximize, bids)
-        if solution is not None:
-            return solution
+        found = fast.solution_of_small(rows, maximize, bids)
+    if found:
+        return found
     began = time.monotonic_ns()
     asked = asked_of(rows, columns, costs, shape, maximize, decimals, missing, forced, forbidden, capacity)
     start, bids = asked.start_of(start), bids_of(bids)
     watch = watch_of(seconds, progress, asked.maximize, began)
-    solution = asked.solution(start, bids, watch=watch)
+    solution = asked.solution(start, bids, watch=watch) if found is False else asked.solution(start, bids, asks=False)
     if progress is not None:
         watch.progress.end(solution)
     return solution

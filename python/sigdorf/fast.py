@@ -113,9 +113,9 @@ def solution_of(problem, maximize, start=None, bids=USUAL_BIDS, watch=None):
 
 
 def solution_of_small(table, maximize, bids):
-    """The Solution of a small array of the caller's, by :func:`found_of_small`, or None."""
+    """The Solution of a small array of the caller's, by :func:`found_of_small`, or what that answers in its place."""
     parts = found_of_small(table, maximize, True, bids)
-    return _made(table, maximize, parts) if parts else None
+    return _made(table, maximize, parts) if parts else parts
 
 
 def solutions_of(tables, maximize, watch):

@@ -59,11 +59,29 @@ def without():
         yield
 
 
+class Counted:
+    """The extension, and how often it was asked."""
+
+    def __init__(self, extension):
+        self.extension, self.asked = extension, 0
+
+    def found(self, *words):
+        self.asked += 1
+        return self.extension.found(*words)
+
+
 class Fast(Limited):
     def setUp(self):
         super().setUp()
         if not fast.is_there():
             self.skipTest("the extension isn't used")
+
+    def test_what_has_no_assignment_is_asked_for_once(self):
+        for call in (sigdorf.solve, sigdorf.linear_sum_assignment):
+            with unittest.mock.patch.object(fast, "_extension", Counted(fast._extension)) as counted:
+                with self.subTest(call=call.__name__), self.assertRaises(sigdorf.Infeasible):
+                    call(numpy.array([[1.0, numpy.inf], [2.0, numpy.inf]]))
+                self.assertEqual(counted.asked, 1)
 
     def test_types_and_layouts(self):
         random = numpy.random.default_rng(1)

@@ -79,7 +79,10 @@ pub(crate) fn attempt_with_ties(rows: &FlatRows, are_there: bool) -> Attempt {
     Attempt {
         bids: for_each(rows, TIES_BIDS_PER_PERSON),
         free: rows.persons() / FREE_DIVISOR,
-        more: for_each(rows, divisions(rows.scale().saturating_mul(rows.spread()), 2)),
+        more: for_each(
+            rows,
+            divisions(rows.scale().saturating_mul(rows.spread()), 2),
+        ),
     }
 }
 

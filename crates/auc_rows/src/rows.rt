@@ -80,10 +80,7 @@ impl FlatRows {
     {
         let laid = laid_out(alloc, problem, |arc| columns.note(arc))?;
         let is_full = are_full(&laid);
-        Ok(FlatRows {
-            laid,
-            is_full,
-        })
+        Ok(FlatRows { laid, is_full })
     }
 
     /// The number of persons, who are numbered from 0.

@@ -11,7 +11,6 @@
  * whether there is more to see. */
 #define LANES 4
 #define BLOCK 256
-#define FEW 32
 /* So many numbers lie in a line of the cache. */
 #define LINE 8
 /* Costs are read as they are while a unit is within these powers of two, since then nothing runs over or under; finer
@@ -239,7 +238,7 @@ static int find_gate(const job *w, double *inner) {
     for (size_t run = 0; run < runs_of(w); run++) {
         const double *values = run_at(w, run);
         for (size_t e = 0, next; e < length; e = next) {
-            next = length - e < FEW ? length : e + FEW;
+            next = length - e < BLOCK ? length : e + BLOCK;
             high = greater(high, greatest_below(values + e, next - e, w->sign, w->ceiling));
             if (!(high - w->floor <= widest)) return 0;
         }

@@ -16,7 +16,7 @@
 /* Tables with fewer entries, gaps among them, are solved as tables. */
 #define FEWEST_LISTED 2500
 /* Blocks of so many bytes and more are of large pages, where there are such ones. It is the number of numpy, by which
- * a table of 5,000 rows and columns took 0.8 of the time. */
+ * a table of 5,000 rows and columns with ties took 0.85 to 0.92 of the time. */
 #define FEWEST_FOR_LARGE_PAGES ((size_t)1 << 22)
 #define SMALL_PAGE 4096
 
